@@ -1,0 +1,18 @@
+//! Lists that contracts see as lists, and the two things that each type of the project can do: be copied and be compared.
+//!
+//! `Seq` keeps its items in one allocation; `Short` keeps a few inline, for operands and lanes. The value of both, in every
+//! contract, is the plain list of their items. `TryClone` says that a copy is the same value, `Equal` that the answer is equality.
+#![tactic(auto)]
+
+mod copying;
+mod equality;
+mod seq;
+mod short;
+
+pub use copying::TryClone;
+pub use equality::Equal;
+pub use seq::Seq;
+pub use short::Short;
+
+/// That memory could not be had, which no contract promises.
+pub type OutOfMemory = std::alloc::AllocError;
