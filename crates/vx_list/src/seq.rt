@@ -37,6 +37,15 @@ impl<T> Seq<T> {
         }
     }
 
+    /// The list of no items, with room for so many.
+    pub fn with_capacity(alloc: Global, room: usize) -> Result<Seq<T>, AllocError>
+        ensures { IfOk result (λ list. list ≡ []) }
+    {
+        Ok(Seq {
+            items: Vec::with_capacity(alloc, room)?,
+        })
+    }
+
     /// The list of a vector's items.
     pub fn from_vec(items: Vec<T>) -> Seq<T>
         ensures { result ≡ items.items }
@@ -103,7 +112,7 @@ impl<T: Drop> Seq<T> {
 
 impl<T: TryClone> TryClone for Seq<T> {
     fn try_clone(&self, alloc: Global) -> Result<Self, AllocError> {
-        let mut copy = Seq::new(alloc);
+        let mut copy = Seq::with_capacity(alloc, self.len())?;
         for item in self.as_slice() {
             copy.push(item.try_clone(alloc)?)?;
         }
