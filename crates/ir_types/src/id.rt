@@ -6,7 +6,7 @@ use std::alloc::{AllocError, Global};
 use vx_list::{Equal, TryClone};
 
 /// The name of a value: a parameter or an instruction.
-#[derive(Clone, Copy, Debug, PartialEq, Eq)]
+#[derive(Clone, Copy, Debug, PartialEq, Eq, Hash)]
 pub struct Id {
     /// 0 for what was read; the region's number plus 1 for what its rewriting created.
     pub region: u32,

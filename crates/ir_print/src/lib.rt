@@ -1,0 +1,8 @@
+//! The text of a module of LLVM IR.
+//!
+//! `print` gives it, whatever the module; want of memory is its only failure. `text_of`, in `specs/Text`, says what it is.
+#![tactic(auto)]
+
+mod names;
+
+pub(crate) use names::Local;
