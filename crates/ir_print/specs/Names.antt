@@ -1,7 +1,10 @@
 -- Names and numbers in a function: what is shown of each value and of each block.
 -- What has a written name shows it. The rest, parameters, blocks and results, is numbered from 0 by one counter in order of the
 -- text; an unlabelled first block takes a number too, and an instruction without a result takes none.
-use Rattle.std.specs.Prelude.{◌≡◌, refl, ℕ, ◌+◌, Bool, true, false, ◌&&◌, Option, Some, None, List, [], ◌∷◌, ◌++◌, codes, nat_eq, find}
+use Rattle.std.specs.Prelude.{◌≡◌, refl, ℕ, ◌+◌, Bool, true, false, ◌&&◌, Option, Some, None, List, [], ◌∷◌, ◌++◌, codes, nat_eq, if◌then◌else◌, option_and_then, slice_get}
+use Rattle.std.specs.HashMap.{HashMap, get_by}
+use Rattle.std.specs.declared.hash.FoldHasher.{FoldHasher}
+use Rattle.std.specs.declared.hash.BuildHasherDefault.{BuildHasherDefault}
 use Rattle.std.specs.Fmt.{decimal, digits}
 use Rattle.ir_types.specs.declared.id.Id.{Id}
 use Rattle.ir_types.specs.declared.ty.Ty.{Ty}
@@ -79,9 +82,19 @@ pub record Names : Type 0 where
 abbrev pub names_of : Func → Names
 names_of f = record { locals = locals_from 0 (named_of f); labels = labels_from 0 (named_of f) }
 
-abbrev pub is_id : Id → Local → Bool
-is_id id l = nat_eq l.id.region id.region && nat_eq l.id.k id.k
+-- whether two ids are one
+abbrev pub same_id : Id → Id → Bool
+same_id a b = nat_eq a.region b.region && nat_eq a.k b.k
 
--- the value of an id, the first where a text that is not formed has several
+-- the last value of an id among these, or what was found before them
+abbrev pub last_of : Id → List Local → Option Local → Option Local
+last_of id [] before = before
+last_of id (l ∷ ls) before = last_of id ls (if same_id l.id id then Some l else before)
+
+-- the value of an id; where a text that is not formed has several, the last
 abbrev pub local_of : Id → List Local → Option Local
-local_of id ls = find (is_id id) ls
+local_of id ls = last_of id ls None
+
+-- a map has the place of each id's value
+abbrev pub IsIndex : HashMap Id ℕ (BuildHasherDefault FoldHasher) → List Local → Type 0
+IsIndex places ls = (id : Id) → option_and_then (λ at. slice_get ls at) (get_by (same_id id) places) ≡ local_of id ls

@@ -4,5 +4,6 @@
 #![tactic(auto)]
 
 mod names;
+mod number;
 
 pub(crate) use names::Local;

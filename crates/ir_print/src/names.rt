@@ -1,8 +1,19 @@
 //! The names of a function: what is shown of each value and of each block.
 //!
-//! `Names::of` gathers them once a function; a look-up by id is then a look-up in a hash map. Want of memory is the only failure.
+//! `Names::of` gathers them once a function; a look-up by id is then one in a hash map. Want of memory is the only failure.
+//! The locals stand in order of the text, and the map has the place of each id's first.
 
-use ir_types::{Bytes, Id, Ty};
+ghost use Rattle.std.specs.Prelude.{◌≡◌, ◌++◌, ◌∷◌, List, IfOk, OnOk, slice_get};
+ghost use Rattle.std.specs.Option.{option_copied};
+ghost use Rattle.ir_print.specs.Names as names;
+ghost use Rattle.ir_print.specs.Names.{Named};
+
+use crate::number::push_decimal;
+use ir_types::{Block, Bytes, Func, Id, Inst, Op, Param, Ty};
+use std::alloc::{AllocError, Global};
+use std::collections::HashMap;
+use std::marker::Model;
+use vx_list::{Seq, TryClone};
 
 /// A value with what is shown of it.
 #[derive(Drop)]
@@ -11,4 +22,186 @@ pub struct Local {
     pub ty: Ty,
     /// Its written name, or its number, without the `%`.
     pub text: Bytes,
+}
+
+/// The names of one function.
+#[derive(Drop)]
+pub struct Names {
+    locals: Vec<Local>,
+    labels: Vec<Bytes>,
+    places: HashMap<Id, usize>,
+}
+
+impl Model for Names {
+    ghost use Rattle.ir_print.specs.Names.{Names as Shown};
+
+    ghost Value = { Shown };
+
+    ghost use Rattle.ir_print.specs.Names.{IsIndex};
+
+    ghost view = { λ n. record { locals = n.locals.items; labels = n.labels.items } };
+
+    ghost invariant = { λ n. IsIndex n.places n.locals.items };
+}
+
+/// The next number, and what is shown of all values and blocks so far.
+#[derive(Drop)]
+struct Numbering {
+    next: u64,
+    locals: Vec<Local>,
+    labels: Vec<Bytes>,
+}
+
+/// What is shown where `n` is the next number.
+fn shown(alloc: Global, n: u64, name: &Option<Bytes>) -> Result<Bytes, AllocError>
+    ensures { IfOk result (λ text. text ≡ names.shown n name.now) }
+{
+    match name {
+        Some(name) => name.try_clone(alloc),
+        None => {
+            let mut digits = Vec::new(alloc);
+            push_decimal(&mut digits, n)?;
+            Ok(Seq::from_vec(digits))
+        }
+    }
+}
+
+/// The number after `n`. That there is one is a matter of memory: each number is of a value or a block that is there.
+fn counted(n: u64, name: &Option<Bytes>) -> Result<u64, AllocError>
+    ensures { IfOk result (λ after. after ≡ names.counted n name.now) }
+{
+    match name {
+        Some(_) => Ok(n),
+        None => n.checked_add(1).ok_or(AllocError),
+    }
+}
+
+impl Numbering {
+    /// Adds a value.
+    fn add_value(
+        &mut self,
+        alloc: Global,
+        id: Id,
+        ty: Ty,
+        name: &Option<Bytes>,
+    ) -> Result<(), AllocError>
+        ensures locals { OnOk result ((rest : List Named) → self.new.locals.items ++ names.locals_from self.new.next rest ≡ self.old.locals.items ++ names.locals_from self.old.next (names.Named.Value id ty name.now ∷ rest)) }
+        ensures labels { OnOk result ((rest : List Named) → self.new.labels.items ++ names.labels_from self.new.next rest ≡ self.old.labels.items ++ names.labels_from self.old.next (names.Named.Value id ty name.now ∷ rest)) }
+    {
+        let text = shown(alloc, self.next, name)?;
+        let next = counted(self.next, name)?;
+        self.locals.push(Local { id, ty, text })?;
+        self.next = next;
+        Ok(())
+    }
+
+    /// Adds a block.
+    fn add_label(&mut self, alloc: Global, name: &Option<Bytes>) -> Result<(), AllocError>
+        ensures locals { OnOk result ((rest : List Named) → self.new.locals.items ++ names.locals_from self.new.next rest ≡ self.old.locals.items ++ names.locals_from self.old.next (names.Named.Label name.now ∷ rest)) }
+        ensures labels { OnOk result ((rest : List Named) → self.new.labels.items ++ names.labels_from self.new.next rest ≡ self.old.labels.items ++ names.labels_from self.old.next (names.Named.Label name.now ∷ rest)) }
+    {
+        let text = shown(alloc, self.next, name)?;
+        let next = counted(self.next, name)?;
+        self.labels.push(text)?;
+        self.next = next;
+        Ok(())
+    }
+
+    /// Adds parameters.
+    fn add_params(&mut self, alloc: Global, params: &[Param]) -> Result<(), AllocError>
+        ensures locals { OnOk result ((rest : List Named) → self.new.locals.items ++ names.locals_from self.new.next rest ≡ self.old.locals.items ++ names.locals_from self.old.next (names.params_named params.now rest)) }
+        ensures labels { OnOk result ((rest : List Named) → self.new.labels.items ++ names.labels_from self.new.next rest ≡ self.old.labels.items ++ names.labels_from self.old.next (names.params_named params.now rest)) }
+    {
+        for param in params {
+            self.add_value(alloc, param.id, param.ty, &param.name)?;
+        }
+        Ok(())
+    }
+
+    /// Adds an instruction, which names something where it has a result.
+    fn add_inst(&mut self, alloc: Global, inst: &Inst) -> Result<(), AllocError>
+        ensures locals { OnOk result ((rest : List Named) → self.new.locals.items ++ names.locals_from self.new.next rest ≡ self.old.locals.items ++ names.locals_from self.old.next (names.result_named (names.is_void inst.now.ty) (names.is_store inst.now.op) inst.now rest)) }
+        ensures labels { OnOk result ((rest : List Named) → self.new.labels.items ++ names.labels_from self.new.next rest ≡ self.old.labels.items ++ names.labels_from self.old.next (names.result_named (names.is_void inst.now.ty) (names.is_store inst.now.op) inst.now rest)) }
+    {
+        match (inst.ty, &inst.op) {
+            (Ty::Void, _) => Ok(()),
+            (_, Op::Store { .. }) => Ok(()),
+            _ => self.add_value(alloc, inst.id, inst.ty, &inst.name),
+        }
+    }
+
+    /// Adds the instructions of a block.
+    fn add_insts(&mut self, alloc: Global, insts: &[Inst]) -> Result<(), AllocError>
+        ensures locals { OnOk result ((rest : List Named) → self.new.locals.items ++ names.locals_from self.new.next rest ≡ self.old.locals.items ++ names.locals_from self.old.next (names.insts_named insts.now rest)) }
+        ensures labels { OnOk result ((rest : List Named) → self.new.labels.items ++ names.labels_from self.new.next rest ≡ self.old.labels.items ++ names.labels_from self.old.next (names.insts_named insts.now rest)) }
+    {
+        for inst in insts {
+            self.add_inst(alloc, inst)?;
+        }
+        Ok(())
+    }
+
+    /// Adds blocks with their instructions, after which nothing follows.
+    fn add_blocks(&mut self, alloc: Global, blocks: &[Block]) -> Result<(), AllocError>
+        ensures locals { OnOk result (self.new.locals.items ≡ self.old.locals.items ++ names.locals_from self.old.next (names.blocks_named blocks.now)) }
+        ensures labels { OnOk result (self.new.labels.items ≡ self.old.labels.items ++ names.labels_from self.old.next (names.blocks_named blocks.now)) }
+    {
+        for block in blocks {
+            self.add_label(alloc, &block.name)?;
+            self.add_insts(alloc, block.insts.as_slice())?;
+        }
+        Ok(())
+    }
+}
+
+/// The place of each id's value.
+fn places_of(alloc: Global, locals: &[Local]) -> Result<HashMap<Id, usize>, AllocError>
+    ensures { IfOk result (λ places. names.IsIndex places locals.now) }
+{
+    let mut places = HashMap::new(alloc);
+    for (at, local) in locals.iter().enumerate() {
+        places.insert(local.id, at)?;
+    }
+    Ok(places)
+}
+
+impl Names {
+    /// The names of a function.
+    pub(crate) fn of(alloc: Global, func: &Func) -> Result<Names, AllocError>
+        ensures { IfOk result (λ shown. shown ≡ names.names_of func.now) }
+    {
+        let mut numbering = Numbering {
+            next: 0,
+            locals: Vec::new(alloc),
+            labels: Vec::new(alloc),
+        };
+        numbering.add_params(alloc, func.params.as_slice())?;
+        numbering.add_blocks(alloc, func.blocks.as_slice())?;
+        let Numbering {
+            next: _,
+            locals,
+            labels,
+        } = numbering;
+        let places = places_of(alloc, locals.as_slice())?;
+        Ok(Names {
+            locals,
+            labels,
+            places,
+        })
+    }
+
+    /// The value of an id.
+    pub(crate) fn local(&self, id: Id) -> Option<&Local>
+        ensures { option_copied result ≡ names.local_of id self.now.locals }
+    {
+        let at = self.places.get(&id).copied()?;
+        self.locals.get(at)
+    }
+
+    /// What is shown of a block.
+    pub(crate) fn label(&self, block: u32) -> Option<&Bytes>
+        ensures { option_copied result ≡ slice_get self.now.labels block }
+    {
+        self.labels.get(block as usize)
+    }
 }
