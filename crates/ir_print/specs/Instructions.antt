@@ -78,6 +78,57 @@ flags_text And f = []
 flags_text Or f = flag_text f.disjoint (codes "disjoint")
 flags_text Xor f = []
 
+-- parts that name nothing
+
+-- the mask is a vector of as many numbers of 32 bits as it has entries
+abbrev pub mask_text : List (Option ℕ) → List ℕ
+mask_text mask = codes "<" ++ (decimal (length mask) ++ (codes " x i32> " ++ vector_text 32 mask))
+
+-- a `getelementptr` up to its operands
+abbrev pub stepped_text : Elem → Bool → List ℕ
+stepped_text e inbounds = codes "getelementptr" ++ (flag_text inbounds (codes "inbounds") ++ (codes " " ++ elem_text e))
+
+-- an `alloca`, with its align where that was given
+abbrev pub given_align : Option ℕ → List ℕ
+given_align None = []
+given_align (Some n) = codes ", align " ++ decimal n
+
+abbrev pub alloca_text : Elem → Option ℕ → List ℕ
+alloca_text e align = codes "alloca " ++ (elem_text e ++ given_align align)
+
+-- the width of the number that a `switch` looks at
+abbrev pub width_of : Ty → ℕ
+width_of (Int w) = w
+width_of _ = 0
+
+-- the word in front of a call
+abbrev pub tail_text : List ℕ → List ℕ
+tail_text [] = []
+tail_text (b ∷ bs) = (b ∷ bs) ++ codes " "
+
+-- a call up to its arguments
+abbrev pub callee_text : List ℕ → Ty → List ℕ → List ℕ
+callee_text pre ty callee = codes "call" ++ (spaced pre ++ (codes " " ++ (ty_text ty ++ (codes " @" ++ (callee ++ codes "(")))))
+
+-- parts of a `switch`
+
+abbrev pub switch_width : Names → Option Opd → ℕ
+switch_width ns None = 0
+switch_width ns (Some o) = width_of (opd_ty ns o)
+
+abbrev pub case_text : Names → ℕ → Option ℕ → ℕ → List ℕ
+case_text ns w n b = codes "    i" ++ (decimal w ++ (codes " " ++ (lane_text w n ++ (codes ", " ++ (label_text ns b ++ codes "\n")))))
+
+abbrev pub cases_text : Names → ℕ → List (Option ℕ) → List ℕ → List ℕ
+cases_text ns w [] bs = []
+cases_text ns w (n ∷ ms) [] = []
+cases_text ns w (n ∷ ms) (b ∷ bs) = case_text ns w n b ++ cases_text ns w ms bs
+
+-- the result with its `=`, where there is one
+abbrev pub result_text : Names → Bool → Bool → Inst → List ℕ
+result_text ns false false i = local_text (local_of i.id ns.locals) ++ codes " = "
+result_text ns _ _ i = []
+
 -- value operations
 
 module _ (ns : Names) (gs : List (List ℕ)) where
@@ -99,12 +150,12 @@ module _ (ns : Names) (gs : List (List ℕ)) where
   abbrev pub three_typed : List Opd → List ℕ
   three_typed os = two_typed os ++ (codes ", " ++ typed_at ns gs (slice_get os 2))
 
-  -- the mask is a vector of as many numbers of 32 bits as it has entries
-  abbrev pub mask_text : List (Option ℕ) → List ℕ
-  mask_text mask = codes "<" ++ (decimal (length mask) ++ (codes " x i32> " ++ vector_text 32 mask))
+  -- a `shufflevector` up to its mask
+  abbrev pub shuffled_text : List Opd → List ℕ
+  shuffled_text os = codes "shufflevector " ++ (two_typed os ++ codes ", ")
 
   abbrev pub shuffle_text : List (Option ℕ) → List Opd → List ℕ
-  shuffle_text mask os = codes "shufflevector " ++ (two_typed os ++ (codes ", " ++ mask_text mask))
+  shuffle_text mask os = shuffled_text os ++ mask_text mask
 
   -- operations on memory
 
@@ -113,20 +164,13 @@ module _ (ns : Names) (gs : List (List ℕ)) where
   indices_text (o ∷ os) = codes ", " ++ (typed_text ns gs o ++ indices_text os)
 
   abbrev pub gep_text : Elem → Bool → List Opd → List ℕ
-  gep_text e inbounds os = codes "getelementptr" ++ (flag_text inbounds (codes "inbounds") ++ (codes " " ++ (elem_text e ++ indices_text os)))
+  gep_text e inbounds os = stepped_text e inbounds ++ indices_text os
 
   abbrev pub load_text : ℕ → Ty → List Opd → List ℕ
   load_text align ty os = codes "load " ++ (ty_text ty ++ (codes ", ptr " ++ (bare_at ns gs (slice_get os 0) ++ (codes ", align " ++ decimal align))))
 
   abbrev pub store_text : ℕ → Ty → List Opd → List ℕ
   store_text align ty os = codes "store " ++ (ty_text ty ++ (codes " " ++ (bare_at ns gs (slice_get os 0) ++ (codes ", ptr " ++ (bare_at ns gs (slice_get os 1) ++ (codes ", align " ++ decimal align))))))
-
-  abbrev pub given_align : Option ℕ → List ℕ
-  given_align None = []
-  given_align (Some n) = codes ", align " ++ decimal n
-
-  abbrev pub alloca_text : Elem → Option ℕ → List ℕ
-  alloca_text e align = codes "alloca " ++ (elem_text e ++ given_align align)
 
   -- operations on the flow of control
 
@@ -153,25 +197,8 @@ module _ (ns : Names) (gs : List (List ℕ)) where
   abbrev pub cond_text : ℕ → ℕ → List Opd → List ℕ
   cond_text b c os = codes "br i1 " ++ (bare_at ns gs (slice_get os 0) ++ (codes ", " ++ (label_text ns b ++ (codes ", " ++ label_text ns c))))
 
-  -- the width of the number that a `switch` looks at
-  abbrev pub width_of : Ty → ℕ
-  width_of (Int w) = w
-  width_of _ = 0
-
-  abbrev pub switch_width : Option Opd → ℕ
-  switch_width None = 0
-  switch_width (Some o) = width_of (opd_ty ns o)
-
-  abbrev pub case_text : ℕ → Option ℕ → ℕ → List ℕ
-  case_text w n b = codes "    i" ++ (decimal w ++ (codes " " ++ (lane_text w n ++ (codes ", " ++ (label_text ns b ++ codes "\n")))))
-
-  abbrev pub cases_text : ℕ → List (Option ℕ) → List ℕ → List ℕ
-  cases_text w [] bs = []
-  cases_text w (n ∷ ms) [] = []
-  cases_text w (n ∷ ms) (b ∷ bs) = case_text w n b ++ cases_text w ms bs
-
   abbrev pub switch_text : ℕ → List (Option ℕ) → List ℕ → List Opd → List ℕ
-  switch_text other cases to os = codes "switch " ++ (typed_at ns gs (slice_get os 0) ++ (codes ", " ++ (label_text ns other ++ (codes " [\n" ++ (cases_text (switch_width (slice_get os 0)) cases to ++ codes "  ]")))))
+  switch_text other cases to os = codes "switch " ++ (typed_at ns gs (slice_get os 0) ++ (codes ", " ++ (label_text ns other ++ (codes " [\n" ++ (cases_text ns (switch_width ns (slice_get os 0)) cases to ++ codes "  ]")))))
 
   -- calls
 
@@ -188,13 +215,9 @@ module _ (ns : Names) (gs : List (List ℕ)) where
   arguments_text (o ∷ os) [] = []
   arguments_text (o ∷ os) (a ∷ as') = argument_text o a ++ more_arguments os as'
 
-  abbrev pub tail_text : List ℕ → List ℕ
-  tail_text [] = []
-  tail_text (b ∷ bs) = (b ∷ bs) ++ codes " "
-
   abbrev pub call_text : List ℕ → List ℕ → List ℕ → List (List ℕ) → List ℕ → Ty → List Opd → List ℕ
   call_text tail pre callee attrs post ty os =
-      tail_text tail ++ (codes "call" ++ (spaced pre ++ (codes " " ++ (ty_text ty ++ (codes " @" ++ (callee ++ (codes "(" ++ (arguments_text os attrs ++ (codes ")" ++ spaced post)))))))))
+      tail_text tail ++ (callee_text pre ty callee ++ (arguments_text os attrs ++ (codes ")" ++ spaced post)))
 
   -- what stands behind the result
   abbrev pub act_text : Op → Ty → List Opd → List ℕ
@@ -217,14 +240,9 @@ module _ (ns : Names) (gs : List (List ℕ)) where
   act_text Unreachable ty os = codes "unreachable"
   act_text (Call tail pre callee attrs post) ty os = call_text tail pre callee attrs post ty os
 
-  -- the result with its `=`, where there is one
-  abbrev pub result_text : Bool → Bool → Inst → List ℕ
-  result_text false false i = local_text (local_of i.id ns.locals) ++ codes " = "
-  result_text _ _ i = []
-
   -- one instruction on its line, a `switch` on several
   abbrev pub inst_text : Inst → List ℕ
-  inst_text i = codes "  " ++ (result_text (is_void i.ty) (is_store i.op) i ++ (act_text i.op i.ty i.opds ++ codes "\n"))
+  inst_text i = codes "  " ++ (result_text ns (is_void i.ty) (is_store i.op) i ++ (act_text i.op i.ty i.opds ++ codes "\n"))
 
   abbrev pub insts_text : List Inst → List ℕ
   insts_text [] = []

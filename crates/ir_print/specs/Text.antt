@@ -26,20 +26,25 @@ abbrev pub params_text : Names → List Param → List ℕ
 params_text ns [] = []
 params_text ns (p ∷ ps) = param_text ns p ++ more_params ns ps
 
+-- the header line up to its parameters
+abbrev pub head_text : Func → List ℕ
+head_text f = codes "define" ++ (spaced f.before ++ (codes " " ++ (ty_text f.ret ++ (codes " @" ++ f.name))))
+
 -- the header line
 abbrev pub header_text : Names → Func → List ℕ
-header_text ns f =
-    codes "define" ++ (spaced f.before ++ (codes " " ++ (ty_text f.ret ++ (codes " @" ++ (f.name ++ (codes "(" ++ (params_text ns f.params ++ (codes ")" ++ (spaced f.after ++ codes " {\n")))))))))
+header_text ns f = head_text f ++ (codes "(" ++ (params_text ns f.params ++ (codes ")" ++ (spaced f.after ++ codes " {\n"))))
 
 abbrev pub label_line : Option (List ℕ) → List ℕ
 label_line None = []
 label_line (Some name) = name ++ codes ":\n"
 
 -- a block behind another: an empty line, its label, its instructions
+abbrev pub next_block : Names → List (List ℕ) → ℕ → Block → List ℕ
+next_block ns gs at b = codes "\n" ++ (label_line (slice_get ns.labels at) ++ insts_text ns gs b.insts)
+
 abbrev pub more_blocks : Names → List (List ℕ) → ℕ → List Block → List ℕ
 more_blocks ns gs at [] = []
-more_blocks ns gs at (b ∷ bs) =
-    codes "\n" ++ (label_line (slice_get ns.labels at) ++ (insts_text ns gs b.insts ++ more_blocks ns gs (at + 1) bs))
+more_blocks ns gs at (b ∷ bs) = next_block ns gs at b ++ more_blocks ns gs (at + 1) bs
 
 -- the blocks; the first shows its label only where that is written
 abbrev pub blocks_text : Names → List (List ℕ) → List Block → List ℕ

@@ -1,0 +1,132 @@
+//! Instructions on their lines, put behind what is written already.
+//!
+//! Want of memory is the only failure, and may leave a part of the text behind.
+
+ghost use Rattle.std.specs.Prelude.{◌≡◌, ◌++◌, OnOk, codes};
+ghost use Rattle.ir_print.specs.Instructions as instructions;
+ghost use Rattle.ir_print.specs.Names.{is_void, is_store};
+
+use crate::flow_ops::{push_br, push_call, push_cond, push_phi, push_ret, push_switch};
+use crate::memory_ops::{push_alloca, push_gep, push_load, push_store};
+use crate::names::Names;
+use crate::operand::push_local;
+use crate::value_ops::{
+    push_bin, push_cast, push_extract, push_icmp, push_insert, push_select, push_shuffle,
+};
+use ir_types::{Bytes, Inst, Op, Opd, Ty};
+use std::alloc::AllocError;
+
+/// What stands behind the result.
+fn push_act(
+    out: &mut Vec<u8>,
+    names: &Names,
+    globals: &[Bytes],
+    op: &Op,
+    ty: Ty,
+    opds: &[Opd],
+) -> Result<(), AllocError>
+    ensures { OnOk result (out.new.items ≡ out.old.items ++ instructions.act_text names.now globals.now op.now ty opds.now) }
+{
+    match op {
+        Op::Bin { op, flags } => push_bin(out, names, globals, *op, *flags, ty, opds),
+        Op::Icmp { pred } => push_icmp(out, names, globals, *pred, opds),
+        Op::Cast { op, nneg } => push_cast(out, names, globals, *op, *nneg, ty, opds),
+        Op::Select => push_select(out, names, globals, opds),
+        Op::Extract => push_extract(out, names, globals, opds),
+        Op::Insert => push_insert(out, names, globals, opds),
+        Op::Shuffle { mask } => push_shuffle(out, names, globals, mask.as_slice(), opds),
+        Op::Gep { elem, inbounds } => push_gep(out, names, globals, *elem, *inbounds, opds),
+        Op::Load { align } => push_load(out, names, globals, *align, ty, opds),
+        Op::Store { align } => push_store(out, names, globals, *align, ty, opds),
+        Op::Alloca { elem, align } => push_alloca(out, *elem, *align),
+        Op::Phi { blocks } => push_phi(out, names, globals, blocks.as_slice(), ty, opds),
+        Op::Ret => push_ret(out, names, globals, opds),
+        Op::Br { to } => push_br(out, names, *to),
+        Op::CondBr { yes, no } => push_cond(out, names, globals, *yes, *no, opds),
+        Op::Switch { other, cases, to } => {
+            push_switch(
+                out,
+                names,
+                globals,
+                *other,
+                cases.as_slice(),
+                to.as_slice(),
+                opds,
+            )
+        }
+        Op::Unreachable => push_unreachable(out),
+        Op::Call {
+            tail,
+            pre,
+            callee,
+            attrs,
+            post,
+        } => {
+            push_call(
+                out,
+                names,
+                globals,
+                tail.as_slice(),
+                pre.as_slice(),
+                callee.as_slice(),
+                attrs.as_slice(),
+                post.as_slice(),
+                ty,
+                opds,
+            )
+        }
+    }
+}
+
+fn push_unreachable(out: &mut Vec<u8>) -> Result<(), AllocError>
+    ensures { OnOk result (out.new.items ≡ out.old.items ++ codes "unreachable") }
+{
+    out.extend_from_slice(b"unreachable")?;
+    Ok(())
+}
+
+/// The result with its `=`, where there is one.
+fn push_result(out: &mut Vec<u8>, names: &Names, inst: &Inst) -> Result<(), AllocError>
+    ensures { OnOk result (out.new.items ≡ out.old.items ++ instructions.result_text names.now (is_void inst.now.ty) (is_store inst.now.op) inst.now) }
+{
+    match (inst.ty, &inst.op) {
+        (Ty::Void, _) => Ok(()),
+        (_, Op::Store { .. }) => Ok(()),
+        _ => {
+            push_local(out, names, inst.id)?;
+            out.extend_from_slice(b" = ")?;
+            Ok(())
+        }
+    }
+}
+
+/// One instruction on its line, a `switch` on several.
+fn push_inst(
+    out: &mut Vec<u8>,
+    names: &Names,
+    globals: &[Bytes],
+    inst: &Inst,
+) -> Result<(), AllocError>
+    ensures { OnOk result (out.new.items ≡ out.old.items ++ instructions.inst_text names.now globals.now inst.now) }
+{
+    out.extend_from_slice(b"  ")?;
+    push_result(out, names, inst)?;
+    push_act(out, names, globals, &inst.op, inst.ty, inst.opds.as_slice())?;
+    out.extend_from_slice(b"\n")?;
+    Ok(())
+}
+
+/// The instructions of a block.
+pub(crate) fn push_insts(
+    out: &mut Vec<u8>,
+    names: &Names,
+    globals: &[Bytes],
+    insts: &[Inst],
+) -> Result<(), AllocError>
+    ensures { OnOk result (out.new.items ≡ out.old.items ++ instructions.insts_text names.now globals.now insts.now) }
+{
+    for inst in insts {
+        push_inst(out, names, globals, inst)?;
+    }
+    Ok(())
+}
