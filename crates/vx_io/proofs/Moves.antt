@@ -1,5 +1,5 @@
 -- Two calls of a source or a sink, one after the other, and counts that rise.
-use Rattle.std.proofs.Common.{◌≡◌, ℕ, ◌+◌, ◌^◌, ◌<◌, ◌≤◌, ◌-◌, List, ◌++◌, length, take, drop, Some, None, ◌⊎◌, inl, inr, subst, sym, ap, ◌∙◌, length-drop, arith}
+use Rattle.std.proofs.Common.{ℕ, ◌+◌, ◌^◌, ◌≤◌, ◌-◌, List, ◌++◌, length, take, drop, inl, inr, subst, sym, ap, length-drop, arith}
 use Rattle.std.specs.Prelude.{Option}
 use Rattle.std.specs.Io.KnownBytes.{Appends, Consumes}
 use Rattle.std.proofs.KnownBytes.{Appends-trans, Consumes-trans}

@@ -2,7 +2,7 @@
 --
 -- The words for one call are those of std: bytes that are kept, consumed and appended. A source or a sink that tells nothing is
 -- `None`, of which nothing is claimed.
-use Rattle.std.specs.Prelude.{◌≡◌, ℕ, ◌<◌, List, [], ◌∷◌, ◌++◌, length, take, Option, Some, refl}
+use Rattle.std.specs.Prelude.{ℕ, ◌<◌, List, [], ◌∷◌, length, take, Option, Some, refl}
 use Rattle.std.specs.Io.KnownBytes.{Appends, Consumes}
 use Rattle.std.proofs.Common.{lit<}
 

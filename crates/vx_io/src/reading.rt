@@ -41,7 +41,11 @@ const PIECE: usize = 65536;
 /// Reads a source to its end, and gives all bytes that it had left, which are `limit` bytes or fewer.
 ///
 /// `ReadFault` comes only where the count of the source rose, `TooLong` exactly where more than `limit` bytes came.
-pub fn read_all<S: Source>(alloc: Global, source: &mut S, limit: u64) -> Result<Vec<u8>, ReadRefusal>
+pub fn read_all<S: Source>(
+    alloc: Global,
+    source: &mut S,
+    limit: u64,
+) -> Result<Vec<u8>, ReadRefusal>
     ensures found { IfOk result (λ v. IfSome (S.left source.old) (λ bytes. v.items ≡ bytes)) }
     ensures short { IfOk result (λ v. length v.items ≤ limit) }
     ensures end { OnOk result (IsAtEnd (S.left source.new)) }

@@ -1,9 +1,9 @@
 //! Tests of what no clause says: that each call can succeed, faults in mid-stream, and the readers and writers of std.
 
 use crate::{
-    MemSink, MemSource, ReadRefusal, SteadySink, SteadySource, StdSink, StdSource, WriteFault, read_all, write_all,
+    MemSink, MemSource, ReadRefusal, StdSink, StdSource, SteadySink, SteadySource, WriteFault,
+    read_all, write_all,
 };
-use std::alloc::Global;
 use std::collections::VecDeque;
 use std::io;
 use std::io::{Cursor, Read};
@@ -45,7 +45,11 @@ fn a_memory_source_gives_pieces_and_fails_at_its_calls(rt: HostRuntime) -> Resul
     ];
     for (piece, failing, limit, answer, rest, faults) in cases {
         assert!(rt; piece > 0);
-        let mut source = MemSource::new(TEXT.to_vec(rt.alloc())?, piece, failing.to_vec(rt.alloc())?);
+        let mut source = MemSource::new(
+            TEXT.to_vec(rt.alloc())?,
+            piece,
+            failing.to_vec(rt.alloc())?,
+        );
         let read = read_all(rt.alloc(), &mut source, limit);
         match (&read, answer) {
             (Ok(bytes), Ok(wanted)) => assert_eq!(rt; bytes.as_slice(), wanted),
@@ -62,7 +66,10 @@ fn a_memory_source_gives_pieces_and_fails_at_its_calls(rt: HostRuntime) -> Resul
 fn what_follows_a_fault_is_read(rt: HostRuntime) -> Result<(), Fail> {
     let mut source = MemSource::new(TEXT.to_vec(rt.alloc())?, 16, [1].to_vec(rt.alloc())?);
     assert!(rt; read_all(rt.alloc(), &mut source, 100).is_err());
-    assert_eq!(rt; read_all(rt.alloc(), &mut source, 100)?.as_slice(), b"r %p)".as_slice());
+    assert_eq!(rt;
+        read_all(rt.alloc(), &mut source, 100)?.as_slice(),
+        b"r %p)".as_slice()
+    );
     Ok(())
 }
 
@@ -90,8 +97,11 @@ fn a_steady_pair_fails_only_for_want_of_room(rt: HostRuntime) -> Result<(), Fail
     let mut source = SteadySource::new(TEXT.to_vec(rt.alloc())?);
     assert_eq!(rt; source.left(), TEXT);
     assert_eq!(rt; read_all(rt.alloc(), &mut source, 21)?.as_slice(), TEXT);
-    let cases: [(usize, Result<(), WriteFault>, &[u8], u64); 3] =
-        [(21, Ok(()), TEXT, 0), (20, Err(WriteFault), b"", 1), (0, Err(WriteFault), b"", 1)];
+    let cases: [(usize, Result<(), WriteFault>, &[u8], u64); 3] = [
+        (21, Ok(()), TEXT, 0),
+        (20, Err(WriteFault), b"", 1),
+        (0, Err(WriteFault), b"", 1),
+    ];
     for (capacity, answer, taken, faults) in cases {
         let mut sink = SteadySink::new(rt.alloc(), capacity)?;
         assert_eq!(rt; write_all(&mut sink, TEXT), answer, "room for {capacity}");
@@ -108,14 +118,19 @@ fn readers_and_writers_of_std(rt: HostRuntime) -> Result<(), Fail> {
     assert_eq!(rt; source.faults(), 0);
 
     let mut flaky = StdSource::new(Flaky { calls: 0 });
-    assert!(rt; matches!(read_all(rt.alloc(), &mut flaky, 21), Err(ReadRefusal::ReadFault)));
+    assert!(rt;
+        matches!(
+            read_all(rt.alloc(), &mut flaky, 21),
+            Err(ReadRefusal::ReadFault)
+        )
+    );
     assert_eq!(rt; flaky.faults(), 1);
 
     let mut queue: VecDeque<u8> = VecDeque::new(rt.alloc());
     let mut sink = StdSink::new(&mut queue);
     assert_eq!(rt; write_all(&mut sink, TEXT), Ok(()));
     assert_eq!(rt; sink.faults(), 0);
-    assert_eq!(rt; queue.make_contiguous(), TEXT);
+    assert_eq!(rt; &*queue.make_contiguous(), TEXT);
 
     let mut room = [0u8; 4];
     let mut full = StdSink::new(Cursor::new(room.as_mut_slice()));

@@ -7,7 +7,7 @@ abbrev pub invariant-loop-bytes : goal.invariant-loop-bytes
 invariant-loop-bytes g l = record {
   few : length l.bytes.items ≤ l.limit;
   front : Consumes (g.S.Source.left l.fn.source) (g.S.Source.left l.source) l.bytes.items;
-  quiet : g.S.Source.faults l.source ≡ g.S.Source.faults l.fn.source
+  quiet : g.S.Source.faults l.source ≡ g.S.Source.faults l.fn.source;
 }
 
 abbrev pub decreases-loop-bytes : goal.decreases-loop-bytes

@@ -7,5 +7,5 @@ pub loop-done-preserved : goal.loop-done-preserved
 loop-done-preserved g c = record {
   in_range = within_rest c.args.bytes.now _ _ c.loop-done.invariant.in_range c.in-Ok.ensures.bound;
   front = Appends-front_more _ _ _ c.args.bytes.now _ _ c.loop-done.invariant.front c.in-Ok.ensures.bytes;
-  quiet = c.in-Ok.ensures.kept ∙ c.loop-done.invariant.quiet
+  quiet = c.in-Ok.ensures.kept ∙ c.loop-done.invariant.quiet;
 }
