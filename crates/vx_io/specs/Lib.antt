@@ -1,0 +1,6 @@
+pub mod Count
+pub mod Bytes
+pub mod Given
+pub mod Collected
+pub mod Bounded
+pub mod Counted
