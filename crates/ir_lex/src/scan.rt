@@ -3,9 +3,9 @@
 //! The one entry point is `cut`, which takes the longest token at each byte that begins one. It fails for want of memory alone.
 //! A string that does not close has no place among the tokens; its quote is then a token of one byte.
 
-ghost use Rattle.std.specs.Prelude.{◌≡◌, ◌<◌, ◌+◌, ◌^◌, length, IfOk};
-ghost use Rattle.std.specs.List.{prefix_len};
-ghost use Rattle.ir_lex.specs.Bytes.{is_word_byte, is_digit};
+ghost use Rattle.std.specs.Prelude.{◌≡◌, ◌<◌, ◌≤◌, ◌==◌, ◌+◌, ◌^◌, length, IfOk};
+ghost use Rattle.std.specs.List.{prefix_len, position_or_len};
+ghost use Rattle.ir_lex.specs.Bytes.{quote, is_word_byte, is_digit};
 ghost use Rattle.ir_lex.specs.Scan.{one_more, string_len, name_len, more_len, cut};
 
 use crate::bytes::{begins_name, is_blank, is_digit, is_mark, is_sigil, is_word_byte};
@@ -42,7 +42,8 @@ pub(crate) fn cut(alloc: Global, line: &[u8]) -> Result<Tokens, AllocError>
 /// How many bytes of the longest token that begins with `byte` stand behind it.
 #[tactic(auto, unfolding(crate::specs::Scan::more_len))]
 fn more_len(byte: u8, behind: &[u8]) -> usize
-    ensures { result ≡ more_len byte behind.now }
+    ensures value { result ≡ more_len byte behind.now }
+    ensures within { result ≤ length behind.now }
 {
     if is_sigil(byte) {
         name_len(byte, behind)
@@ -58,7 +59,8 @@ fn more_len(byte: u8, behind: &[u8]) -> usize
 /// How many bytes a name has behind its sigil; 0 where none stands there.
 #[tactic(auto, unfolding(crate::specs::Scan::name_len))]
 fn name_len(sigil: u8, behind: &[u8]) -> usize
-    ensures { result ≡ name_len sigil behind.now }
+    ensures value { result ≡ name_len sigil behind.now }
+    ensures within { result ≤ length behind.now }
 {
     match behind {
         [] => 0,
@@ -78,25 +80,34 @@ fn one_more(count: usize) -> usize
 }
 
 /// How many bytes a string has behind its opening quote; 0 where it does not close.
+#[tactic(auto, using(crate::proofs::Runs::string_closed, crate::proofs::Runs::string_open))]
 fn string_len(behind: &[u8]) -> usize
-    ensures { result ≡ string_len behind.now }
+    ensures value { result ≡ string_len behind.now }
+    ensures within { result ≤ length behind.now }
 {
-    match behind.iter().position(|byte| *byte == b'"') {
-        Some(at) => at + 1,
-        None => 0,
-    }
+    let quoted = quoted_len(behind);
+    if quoted < behind.len() { quoted + 1 } else { 0 }
+}
+
+/// How many bytes stand in front of the first quote.
+fn quoted_len(bytes: &[u8]) -> usize
+    ensures { result ≡ position_or_len (λ b. b == quote) bytes.now }
+{
+    bytes.iter().take_while(|byte| **byte != b'"').count()
 }
 
 /// How many bytes at the front may stand in a plain name or a run.
 fn word_len(bytes: &[u8]) -> usize
-    ensures { result ≡ prefix_len is_word_byte bytes.now }
+    ensures value { result ≡ prefix_len is_word_byte bytes.now }
+    ensures within { result ≤ length bytes.now }
 {
     bytes.iter().take_while(|byte| is_word_byte(**byte)).count()
 }
 
 /// How many bytes at the front are digits.
 fn digits_len(bytes: &[u8]) -> usize
-    ensures { result ≡ prefix_len is_digit bytes.now }
+    ensures value { result ≡ prefix_len is_digit bytes.now }
+    ensures within { result ≤ length bytes.now }
 {
     bytes.iter().take_while(|byte| is_digit(**byte)).count()
 }
