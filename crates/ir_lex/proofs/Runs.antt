@@ -9,7 +9,7 @@ use Rattle.ir_lex.specs.Scan.{one_more, string_len}
 -- the bytes of a run pass
 pub run_passes : (p : ℕ → Bool) (bs : List ℕ) → list_all p (take (prefix_len p bs) bs) ≡ true
 run_passes p [] = refl
-run_passes p (b ∷ bs) = grind (arith, common_steps, run_passes p bs)
+run_passes p (b ∷ bs) = let e : 1 + prefix_len p bs ≡ suc (prefix_len p bs) = omega arith in grind (arith, common_steps, e, run_passes p bs)
 
 -- no more bytes pass
 pub run_longest : (p : ℕ → Bool) (bs : List ℕ) (m : ℕ) → m ≤ length bs → list_all p (take m bs) ≡ true → m ≤ prefix_len p bs

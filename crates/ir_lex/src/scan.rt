@@ -13,6 +13,7 @@ use crate::list::{Token, Tokens};
 use std::alloc::{AllocError, Global};
 
 /// The tokens of a line.
+#[tactic(auto, unfolding(crate::specs::Scan::cut))]
 pub(crate) fn cut(alloc: Global, line: &[u8]) -> Result<Tokens, AllocError>
     requires { length line.now + 1 < 2 ^ 32 }
     ensures { IfOk result (λ found. found ≡ cut line.now) }
@@ -21,20 +22,19 @@ pub(crate) fn cut(alloc: Global, line: &[u8]) -> Result<Tokens, AllocError>
     let mut place: u32 = 0;
     let mut rest = line;
     'each: while let [byte, behind @ ..] = rest {
+        if is_blank(*byte) {
+            place += 1;
+            rest = behind;
+            continue;
+        }
         if *byte == b';' {
-            break;
+            return Ok(tokens);
         }
-        let (to, after) = if is_blank(*byte) {
-            (place + 1, behind)
-        } else {
-            let more = more_len(*byte, behind);
-            (place + 1 + more as u32, behind.split_at(more).1)
-        };
-        if !is_blank(*byte) {
-            tokens.push(Token { from: place, to })?;
-        }
+        let more = more_len(*byte, behind);
+        let to = place + 1 + more as u32;
+        tokens.push(Token { from: place, to })?;
         place = to;
-        rest = after;
+        rest = behind.split_at(more).1;
     }
     Ok(tokens)
 }
