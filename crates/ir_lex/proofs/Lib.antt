@@ -1,2 +1,6 @@
 -- What the proofs of the crate share, and the laws that crates above stand on.
+pub mod Classes
+pub mod Cutting
+pub mod Faulty
+pub mod Longer
 pub mod Runs
