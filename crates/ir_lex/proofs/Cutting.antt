@@ -1,6 +1,6 @@
 -- The walk that cuts a line, token by token.
-use Rattle.std.proofs.Common.{◌≡◌, ℕ, suc, zero, ◌+◌, ◌<◌, ◌≤◌, ◌≢◌, ◌==◌, Bool, true, false, cond, List, [], ◌∷◌, ◌++◌, length, take, drop, get_or, refl, arith, length-drop, ap}
-use Rattle.std.proofs.lemmas.Grind.{common_steps}
+use Rattle.std.proofs.Common.{◌≡◌, ℕ, suc, zero, ◌+◌, ◌<◌, ◌≤◌, ◌≢◌, ◌==◌, Bool, ◌⊎◌, true, false, cond, List, [], ◌∷◌, ◌++◌, length, take, drop, get_or, refl, arith, length-drop, append_assoc, subst, inl, inr}
+use Rattle.std.proofs.lemmas.Bool.Decides.{eqb_tells}
 use Rattle.ir_lex.specs.Bytes.{semicolon, is_blank}
 use Rattle.ir_lex.specs.Scan.{more_len, cut_from}
 use Rattle.ir_lex.specs.declared.list.Token.{Token}
@@ -10,6 +10,9 @@ pub cut_skip : (n at : ℕ) (bs : List ℕ) → n ≤ length bs → cut_from n a
 cut_skip zero at bs l = let e : at + 0 ≡ at = omega arith in rw e refl
 cut_skip (suc n) at [] l = absurd (omega arith)
 cut_skip (suc n) at (b ∷ bs) l = let e : at + suc n ≡ at + 1 + n = omega arith in rw e (cut_skip n (at + 1) bs (omega arith))
+
+eqb_no : (a b : ℕ) → a ≢ b → (a == b) ≡ false
+eqb_no a b h = elim (eqb_tells a b) [ inl e ↦ absurd (h e.1) | inr e ↦ e.0 ]
 
 -- a token and what the walk cuts behind it
 pub cut_next : (ts whole new : List Token) (at size n : ℕ) (rest behind after : List ℕ) → 1 ≤ length rest → behind ≡ drop 1 rest →

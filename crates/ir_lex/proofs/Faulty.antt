@@ -1,6 +1,6 @@
 -- The walk over a line finds its first fault.
 use Rattle.std.proofs.Common.{◌≡◌, ℕ, suc, zero, ◌+◌, ◌<◌, ◌≤◌, Bool, true, false, cond, List, [], ◌∷◌, length, take, drop, Option, Some, None, ◌⊎◌, inl, inr, refl, subst, arith}
-use Rattle.std.proofs.lemmas.Bool.Decides.{ltb_tells}
+use Rattle.std.proofs.lemmas.Bool.Decides.{eqb_tells, leb_tells}
 use Rattle.ir_lex.proofs.Classes.{clash}
 use Rattle.ir_lex.specs.Faults.{enter, behind, begins_fault, is_fault, FirstFault}
 use Rattle.ir_lex.specs.Scan.{fault_from}
@@ -54,8 +54,8 @@ found_first line k h = here (fault_there Plain 0 line k h) where
 -- there is one first fault
 pub first_once : (line : List ℕ) (j k : ℕ) → FirstFault line j → FirstFault line k → j ≡ k
 first_once line j k f g =
-    elim (ltb_tells j k) [
-      inl h ↦ clash _ (g.first j h.1) f.fault
-    | inr h ↦ elim (ltb_tells k j) [
-        inl l ↦ clash _ (f.first k l.1) g.fault
-      | inr l ↦ omega arith ] ]
+    elim (eqb_tells j k) [
+      inl h ↦ h.1
+    | inr h ↦ elim (leb_tells j k) [
+        inl l ↦ clash _ (g.first j (omega (arith, h.1))) f.fault
+      | inr l ↦ clash _ (f.first k l.1) g.fault ] ]

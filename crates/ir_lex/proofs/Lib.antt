@@ -2,5 +2,6 @@
 pub mod Classes
 pub mod Cutting
 pub mod Faulty
+pub mod Laws
 pub mod Longer
 pub mod Runs
