@@ -64,3 +64,7 @@ quote_no_digit b q = by_quote (λ x. is_digit x ≡ false) refl b q
 pub digit_no_name : (b : ℕ) → is_digit b ≡ true → begins_name b ≡ false
 unfolding is_digit begins_name
 digit_no_name b d = grind (arith, nat_tests)
+
+pub digit_word : (b : ℕ) → is_digit b ≡ true → is_word_byte b ≡ true
+unfolding is_digit is_word_byte
+digit_word b d = grind (arith, nat_tests)

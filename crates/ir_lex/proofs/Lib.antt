@@ -1,4 +1,5 @@
 -- What the proofs of the crate share, and the laws that crates above stand on.
+pub mod Again
 pub mod Classes
 pub mod Cutting
 pub mod Faulty
