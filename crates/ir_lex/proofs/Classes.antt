@@ -1,6 +1,7 @@
 -- Which classes of bytes have no byte in common.
 use Rattle.std.proofs.Common.{◌≡◌, ℕ, ◌==◌, Bool, true, false, cond, ◌&&◌, ◌||◌, ◌⊎◌, inl, inr, refl, sym, subst, arith, eqb-true}
 use Rattle.std.proofs.lemmas.Bool.Decides.{nat_tests}
+use Rattle.std.specs.Char.{is_ascii_digit}
 use Rattle.ir_lex.specs.Bytes.{quote, begins_name, is_word_byte, is_digit, is_sigil, is_mark}
 
 pub both : (a b : Bool) → (a && b) ≡ true → (a ≡ true) × (b ≡ true)
@@ -48,6 +49,10 @@ pub quote_no_mark : (b : ℕ) → (b == quote) ≡ true → is_mark b ≡ false
 unfolding is_mark
 quote_no_mark b q = by_quote (λ x. is_mark x ≡ false) refl b q
 
+pub quote_no_sigil : (b : ℕ) → (b == quote) ≡ true → is_sigil b ≡ false
+unfolding is_sigil
+quote_no_sigil b q = by_quote (λ x. is_sigil x ≡ false) refl b q
+
 pub quote_no_word : (b : ℕ) → (b == quote) ≡ true → is_word_byte b ≡ false
 unfolding is_word_byte begins_name
 quote_no_word b q = by_quote (λ x. is_word_byte x ≡ false) refl b q
@@ -68,3 +73,17 @@ digit_no_name b d = grind (arith, nat_tests)
 pub digit_word : (b : ℕ) → is_digit b ≡ true → is_word_byte b ≡ true
 unfolding is_digit is_word_byte
 digit_word b d = grind (arith, nat_tests)
+
+pub name_word : (b : ℕ) → begins_name b ≡ true → is_word_byte b ≡ true
+unfolding is_word_byte
+name_word b n = rw n refl
+
+pub no_word_no_name : (b : ℕ) → is_word_byte b ≡ false → begins_name b ≡ false
+unfolding is_word_byte
+no_word_no_name b w = (neither (begins_name b) (is_ascii_digit b) w).0
+
+pub mark_no_quote : (b : ℕ) → is_mark b ≡ true → (b == quote) ≡ false
+mark_no_quote b m = here (b == quote) refl where
+  here : (t : Bool) → (b == quote) ≡ t → t ≡ false
+  here true q = clash (is_mark b) (quote_no_mark b q) m
+  here false q = refl

@@ -9,7 +9,7 @@ use Rattle.ir_lex.specs.declared.list.Token.{Token}
 use Rattle.ir_lex.specs.declared.faults.Part.TheVariants.{Plain}
 use Rattle.ir_lex.proofs.Classes.{clash}
 use Rattle.ir_lex.proofs.Cutting.{cut_skip}
-use Rattle.ir_lex.proofs.Faulty.{fault_absent, found_first}
+use Rattle.ir_lex.proofs.Faulty.{fault_absent, found_first, first_once}
 use Rattle.ir_lex.proofs.Longer.{longest_more, longest_once}
 
 -- what the walk cuts are the tokens
@@ -66,6 +66,13 @@ fault_none line sound = here (fault_from Plain 0 line) refl where
   here : (found : Option ℕ) → fault_from Plain 0 line ≡ found → found ≡ None
   here None e = refl
   here (Some k) e = clash _ (sound k) (found_first line k e).1.fault
+
+-- the walk finds the first fault
+pub fault_some : (line : List ℕ) (k : ℕ) → FirstFault line k → fault_from Plain 0 line ≡ Some k
+fault_some line k first = here (fault_from Plain 0 line) refl where
+  here : (found : Option ℕ) → fault_from Plain 0 line ≡ found → found ≡ Some k
+  here None e = clash _ (fault_absent Plain 0 line e k) first.fault
+  here (Some j) e = ap Some (first_once line j k (found_first line j e).1 first)
 
 -- what a line without a fault has for tokens
 pub lexed_is : (line : List ℕ) (ts : List Token) → Lexed line ts → (fault_from Plain 0 line ≡ None) × (ts ≡ cut line)

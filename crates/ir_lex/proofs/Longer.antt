@@ -5,7 +5,7 @@ use Rattle.std.specs.List.{list_all, prefix_len}
 use Rattle.ir_lex.specs.Bytes.{quote, begins_name, is_word_byte, is_digit, is_sigil, is_mark}
 use Rattle.ir_lex.specs.Tokens.{IsToken, Name, QuotedName, Unnamed, Text, Mark, Run, Single, Longest, ends_string, is_string, is_name, is_number}
 use Rattle.ir_lex.specs.Scan.{one_more, string_len, name_len, more_len}
-use Rattle.ir_lex.proofs.Classes.{both, either, neither, clash, sigil_no_quote, sigil_no_mark, sigil_no_word, percent_sigil, quote_no_mark, quote_no_word, quote_no_name, quote_no_digit, digit_no_name}
+use Rattle.ir_lex.proofs.Classes.{both, either, neither, clash, sigil_no_quote, sigil_no_mark, sigil_no_word, percent_sigil, quote_no_mark, quote_no_word, quote_no_name, quote_no_digit, quote_no_sigil, digit_no_name}
 use Rattle.ir_lex.proofs.Runs.{run_passes, run_longest, string_within, string_stands, string_longest, take_nothing, digits_number}
 
 by_test : (P : ℕ → Type 0) (t : Bool) (x y : ℕ) → (t ≡ true → P x) → (t ≡ false → P y) → P (cond t x y)
@@ -159,6 +159,11 @@ longest_more b bs =
     by_test (Longest b bs) (b == quote) _ _ (longest_string b bs s) (λ q.
     by_test (Longest b bs) (is_mark b || is_word_byte b) _ _ (longest_run b bs s q) (λ w.
     alone b bs (λ m. most_single b bs m s q w))))
+
+-- a string's bytes are those that the walk takes
+pub string_of_quote : (b : ℕ) (bs : List ℕ) → (b == quote) ≡ true → string_len bs ≡ more_len b bs
+unfolding more_len
+string_of_quote b bs q = rw (quote_no_sigil b q, q) refl
 
 -- there is one longest token
 pub longest_once : (b : ℕ) (bs : List ℕ) (m n : ℕ) → Longest b bs m → Longest b bs n → m ≡ n
