@@ -29,10 +29,12 @@ word_plain : (b : ℕ) → is_word_byte b ≡ true → enter Plain b ≡ Plain
 unfolding is_word_byte begins_name
 word_plain b w =
     elim (b == quote) as (λ t. (b == quote) ≡ t → cond t Quoted (cond (b == semicolon) Comment Plain) ≡ Plain) [
-      true ↦ λ q. clash (is_word_byte b) (by_quote (λ x. is_word_byte x ≡ false) refl b q) w
-    | false ↦ λ q. elim (b == semicolon) as (λ t. (b == semicolon) ≡ t → cond t Comment Plain ≡ Plain) [
-        true ↦ λ s. clash (is_word_byte b) (subst (λ x. is_word_byte x ≡ false) (sym (eqb-true b semicolon s)) refl) w
-      | false ↦ λ s. refl ] refl ] refl
+      | true ↦ λ q. clash (is_word_byte b) (by_quote (λ x. is_word_byte x ≡ false) refl b q) w
+      | false ↦ λ q. elim (b == semicolon) as (λ t. (b == semicolon) ≡ t → cond t Comment Plain ≡ Plain) [
+        | true ↦ λ s. clash (is_word_byte b) (subst (λ x. is_word_byte x ≡ false) (sym (eqb-true b semicolon s)) refl) w
+        | false ↦ λ s. refl
+      ] refl
+    ] refl
 
 words_plain : (bs : List ℕ) → list_all is_word_byte bs ≡ true → behind Plain bs ≡ Plain
 words_plain [] h = refl
@@ -97,7 +99,7 @@ unfolding string_len
 string_stops [] rest h = absurd (h refl)
 string_stops (b ∷ bs) rest h = here (b == quote) h (string_stops bs rest) where
   here : (t : Bool) → cond t 1 (one_more (string_len bs)) ≢ 0 → (string_len bs ≢ 0 → string_len (bs ++ rest) ≡ string_len bs) →
-         cond t 1 (one_more (string_len (bs ++ rest))) ≡ cond t 1 (one_more (string_len bs))
+      cond t 1 (one_more (string_len (bs ++ rest))) ≡ cond t 1 (one_more (string_len bs))
   here true h next = refl
   here false h next = let more : string_len bs ≢ 0 = (λ z. h (rw z refl)) in rw (next more) refl
 
@@ -112,9 +114,9 @@ name_none b (x ∷ rest) h =
     let q : (x == quote) ≡ false = no_from _ (both _ _ h).1 in
     let n : begins_name x ≡ false = no_word_no_name x (no_from _ (both _ _ h).0) in
     rw (q, n) (here (b == 37)) where
-  here : (t : Bool) → cond t (prefix_len is_digit (x ∷ rest)) 0 ≡ 0
-  here true = digits_stop (x ∷ rest) h
-  here false = refl
+      here : (t : Bool) → cond t (prefix_len is_digit (x ∷ rest)) 0 ≡ 0
+      here true = digits_stop (x ∷ rest) h
+      here false = refl
 
 name_stops : (b : ℕ) (bs rest : List ℕ) → stops rest ≡ true → Closes bs → name_len b (bs ++ rest) ≡ name_len b bs
 unfolding name_len
@@ -190,24 +192,25 @@ blank_plain : (b : ℕ) → is_blank b ≡ true → enter Plain b ≡ Plain
 unfolding is_blank
 blank_plain b h =
     elim (either (b == 32) (b == 9) h) [
-      inl e ↦ subst (λ x. enter Plain x ≡ Plain) (sym (eqb-true b 32 e)) refl
-    | inr e ↦ subst (λ x. enter Plain x ≡ Plain) (sym (eqb-true b 9 e)) refl ]
+      | inl e ↦ subst (λ x. enter Plain x ≡ Plain) (sym (eqb-true b 32 e)) refl
+      | inr e ↦ subst (λ x. enter Plain x ≡ Plain) (sym (eqb-true b 9 e)) refl
+    ]
 
 -- behind the token at the first byte no string is open, where none is open at the end
 rest_plain : (b : ℕ) (bs : List ℕ) → (b == semicolon) ≡ false → behind Plain (b ∷ bs) ≡ Plain → behind Plain (drop (more_len b bs) bs) ≡ Plain
 rest_plain b bs s h =
     let token : behind Plain (b ∷ take (more_len b bs) bs) ≡ Plain = token_plain b (take (more_len b bs) bs) s one (longest_more b bs).stands in
     let apart : behind Plain (b ∷ bs) ≡ behind (behind Plain (b ∷ take (more_len b bs) bs)) (drop (more_len b bs) bs) =
-        ap (behind (enter Plain b)) (sym (take-append-drop (more_len b bs) bs)) ∙ behind_append (enter Plain b) (take (more_len b bs) bs) (drop (more_len b bs) bs) in
+    ap (behind (enter Plain b)) (sym (take-append-drop (more_len b bs) bs)) ∙ behind_append (enter Plain b) (take (more_len b bs) bs) (drop (more_len b bs) bs) in
     subst (λ (p : Part). behind p (drop (more_len b bs) bs) ≡ Plain) token (sym apart ∙ h) where
-  nothing : (t : Bool) → (b == quote) ≡ t → take (more_len b bs) bs ≡ [] → t ≡ false
-  nothing false q e = refl
-  nothing true q e =
-      let none : more_len b bs ≡ 0 = take_nothing _ bs (longest_more b bs).within e in
-      absurd (closes_plain (b ∷ bs) h q (string_of_quote b bs q ∙ none))
+      nothing : (t : Bool) → (b == quote) ≡ t → take (more_len b bs) bs ≡ [] → t ≡ false
+      nothing false q e = refl
+      nothing true q e =
+          let none : more_len b bs ≡ 0 = take_nothing _ bs (longest_more b bs).within e in
+          absurd (closes_plain (b ∷ bs) h q (string_of_quote b bs q ∙ none))
 
-  one : take (more_len b bs) bs ≡ [] → (b == quote) ≡ false
-  one e = nothing (b == quote) refl e
+      one : take (more_len b bs) bs ≡ [] → (b == quote) ≡ false
+      one e = nothing (b == quote) refl e
 
 -- the bytes of the tokens of two pieces are those of the one and of the other, where the first leaves no string open and has
 -- no comment, and the second does not go on with a word
@@ -218,21 +221,21 @@ texts_append_from (suc left) (b ∷ bs) rest l h stop = texts_append_from left b
 texts_append_from zero (b ∷ bs) rest l h stop =
     here (is_blank b) (b == semicolon) refl refl (λ e. texts_append_from 0 bs rest (omega arith) (subst (λ (p : Part). behind p bs ≡ Plain) (blank_plain b e) h) stop)
     (λ s. texts_append_from (more_len b bs) bs rest (longest_more b bs).within (rest_plain b bs s h) stop) where
-  token : (n : ℕ) → n ≡ more_len b bs → n ≤ length bs → texts_from n (bs ++ rest) ≡ texts_from n bs ++ texts_from 0 rest →
+      token : (n : ℕ) → n ≡ more_len b bs → n ≤ length bs → texts_from n (bs ++ rest) ≡ texts_from n bs ++ texts_from 0 rest →
           (b ∷ take n (bs ++ rest)) ∷ texts_from n (bs ++ rest) ≡ (b ∷ take (more_len b bs) bs) ∷ texts_from (more_len b bs) bs ++ texts_from 0 rest
-  token n e l next = rw (take-append-le n bs rest l, next, e) refl
+      token n e l next = rw (take-append-le n bs rest l, next, e) refl
 
-  here : (blank comment : Bool) → is_blank b ≡ blank → (b == semicolon) ≡ comment → (is_blank b ≡ true → texts_from 0 (bs ++ rest) ≡ texts_from 0 bs ++ texts_from 0 rest) →
-         ((b == semicolon) ≡ false → texts_from (more_len b bs) (bs ++ rest) ≡ texts_from (more_len b bs) bs ++ texts_from 0 rest) →
-         cond blank (texts_from 0 (bs ++ rest)) (cond comment [] ((b ∷ take (more_len b (bs ++ rest)) (bs ++ rest)) ∷ texts_from (more_len b (bs ++ rest)) (bs ++ rest)))
-         ≡ cond blank (texts_from 0 bs) (cond comment [] ((b ∷ take (more_len b bs) bs) ∷ texts_from (more_len b bs) bs)) ++ texts_from 0 rest
-  here true comment e c skip next = skip e
-  here false true e c skip next = not_comment (sym (behind_comment bs) ∙ subst (λ (x : ℕ). behind (enter Plain x) bs ≡ Plain) (eqb-true b semicolon c) h)
-  here false false e c skip next =
-      let same : more_len b (bs ++ rest) ≡ more_len b bs =
+      here : (blank comment : Bool) → is_blank b ≡ blank → (b == semicolon) ≡ comment → (is_blank b ≡ true → texts_from 0 (bs ++ rest) ≡ texts_from 0 bs ++ texts_from 0 rest) →
+          ((b == semicolon) ≡ false → texts_from (more_len b bs) (bs ++ rest) ≡ texts_from (more_len b bs) bs ++ texts_from 0 rest) →
+          cond blank (texts_from 0 (bs ++ rest)) (cond comment [] ((b ∷ take (more_len b (bs ++ rest)) (bs ++ rest)) ∷ texts_from (more_len b (bs ++ rest)) (bs ++ rest)))
+          ≡ cond blank (texts_from 0 bs) (cond comment [] ((b ∷ take (more_len b bs) bs) ∷ texts_from (more_len b bs) bs)) ++ texts_from 0 rest
+      here true comment e c skip next = skip e
+      here false true e c skip next = not_comment (sym (behind_comment bs) ∙ subst (λ (x : ℕ). behind (enter Plain x) bs ≡ Plain) (eqb-true b semicolon c) h)
+      here false false e c skip next =
+          let same : more_len b (bs ++ rest) ≡ more_len b bs =
           more_stops b bs rest stop (closes_plain (b ∷ bs) h) (λ s. closes_plain bs (subst (λ (p : Part). behind p bs ≡ Plain) (plain_byte b (sigil_no_quote b s) c) h)) in
-      subst (λ (n : ℕ). (b ∷ take n (bs ++ rest)) ∷ texts_from n (bs ++ rest) ≡ (b ∷ take (more_len b bs) bs) ∷ texts_from (more_len b bs) bs ++ texts_from 0 rest)
-      (sym same) (token (more_len b bs) refl (longest_more b bs).within (next c))
+          subst (λ (n : ℕ). (b ∷ take n (bs ++ rest)) ∷ texts_from n (bs ++ rest) ≡ (b ∷ take (more_len b bs) bs) ∷ texts_from (more_len b bs) bs ++ texts_from 0 rest)
+          (sym same) (token (more_len b bs) refl (longest_more b bs).within (next c))
 
 pub texts_append : (bs rest : List ℕ) → behind Plain bs ≡ Plain → stops rest ≡ true → texts (bs ++ rest) ≡ texts bs ++ texts rest
 unfolding texts
@@ -261,7 +264,7 @@ fault_shift : (part : Part) (at to : ℕ) (bs : List ℕ) → fault_from part at
 fault_shift part at to [] h = refl
 fault_shift part at to (b ∷ bs) h = here (begins_fault part (b ∷ bs)) h (fault_shift (enter part b) (at + 1) (to + 1) bs) where
   here : (t : Bool) → cond t (Some at) (fault_from (enter part b) (at + 1) bs) ≡ None →
-         (fault_from (enter part b) (at + 1) bs ≡ None → fault_from (enter part b) (to + 1) bs ≡ None) → cond t (Some to) (fault_from (enter part b) (to + 1) bs) ≡ None
+      (fault_from (enter part b) (at + 1) bs ≡ None → fault_from (enter part b) (to + 1) bs ≡ None) → cond t (Some to) (fault_from (enter part b) (to + 1) bs) ≡ None
   here true h next = cc
   here false h next = next h
 
@@ -279,7 +282,7 @@ pub fault_append : (part : Part) (at : ℕ) (bs rest : List ℕ) → fault_from 
 fault_append part at [] rest h k = k
 fault_append part at (b ∷ bs) rest h k =
     here (begins_fault part (b ∷ bs)) refl h (λ f. fault_append (enter part b) (at + 1) bs rest f (fault_shift (behind (enter part b) bs) at (at + 1) rest k)) where
-  here : (t : Bool) → begins_fault part (b ∷ bs) ≡ t → cond t (Some at) (fault_from (enter part b) (at + 1) bs) ≡ None →
-         (fault_from (enter part b) (at + 1) bs ≡ None → fault_from (enter part b) (at + 1) (bs ++ rest) ≡ None) → fault_from part at (b ∷ bs ++ rest) ≡ None
-  here true e h next = cc
-  here false e h next = rw (begins_more part b bs rest e) (next h)
+      here : (t : Bool) → begins_fault part (b ∷ bs) ≡ t → cond t (Some at) (fault_from (enter part b) (at + 1) bs) ≡ None →
+          (fault_from (enter part b) (at + 1) bs ≡ None → fault_from (enter part b) (at + 1) (bs ++ rest) ≡ None) → fault_from part at (b ∷ bs ++ rest) ≡ None
+      here true e h next = cc
+      here false e h next = rw (begins_more part b bs rest e) (next h)

@@ -27,8 +27,9 @@ pub by_sigil : (P : ℕ → Type 0) → P 64 → P 37 → (b : ℕ) → is_sigil
 unfolding is_sigil
 by_sigil P h k b e =
     elim (either (b == 64) (b == 37) e) [
-      inl t ↦ subst P (sym (eqb-true b 64 t)) h
-    | inr t ↦ subst P (sym (eqb-true b 37 t)) k ]
+      | inl t ↦ subst P (sym (eqb-true b 64 t)) h
+      | inr t ↦ subst P (sym (eqb-true b 37 t)) k
+    ]
 
 pub sigil_no_quote : (b : ℕ) → is_sigil b ≡ true → (b == quote) ≡ false
 sigil_no_quote b s = by_sigil (λ x. (x == quote) ≡ false) refl refl b s

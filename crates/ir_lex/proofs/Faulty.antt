@@ -13,8 +13,8 @@ fault_absent part at [] h zero = refl
 fault_absent part at [] h (suc k) = refl
 fault_absent part at (b ∷ bs) h k = here (begins_fault part (b ∷ bs)) refl h k (λ h k. fault_absent (enter part b) (at + 1) bs h k) where
   here : (t : Bool) → begins_fault part (b ∷ bs) ≡ t → cond t (Some at) (fault_from (enter part b) (at + 1) bs) ≡ None → (k : ℕ) →
-         (fault_from (enter part b) (at + 1) bs ≡ None → (k : ℕ) → begins_fault (behind (enter part b) (take k bs)) (drop k bs) ≡ false) →
-         begins_fault (behind part (take k (b ∷ bs))) (drop k (b ∷ bs)) ≡ false
+      (fault_from (enter part b) (at + 1) bs ≡ None → (k : ℕ) → begins_fault (behind (enter part b) (take k bs)) (drop k bs) ≡ false) →
+      begins_fault (behind part (take k (b ∷ bs))) (drop k (b ∷ bs)) ≡ false
   here true e h k next = cc
   here false e h zero next = e
   here false e h (suc k) next = next h k
@@ -30,8 +30,8 @@ pub fault_there : (part : Part) (at : ℕ) (line : List ℕ) (k : ℕ) → fault
 fault_there part at [] k h = cc
 fault_there part at (b ∷ bs) k h = here (begins_fault part (b ∷ bs)) refl h (λ h. fault_there (enter part b) (at + 1) bs k h) where
   here : (t : Bool) → begins_fault part (b ∷ bs) ≡ t → cond t (Some at) (fault_from (enter part b) (at + 1) bs) ≡ Some k →
-         (fault_from (enter part b) (at + 1) bs ≡ Some k → (j : ℕ) × (k ≡ at + 1 + j) × FoundAt (enter part b) bs j) →
-         (j : ℕ) × (k ≡ at + j) × FoundAt part (b ∷ bs) j
+      (fault_from (enter part b) (at + 1) bs ≡ Some k → (j : ℕ) × (k ≡ at + 1 + j) × FoundAt (enter part b) bs j) →
+      (j : ℕ) × (k ≡ at + j) × FoundAt part (b ∷ bs) j
   here true e h next =
       let same : at ≡ k = cc in
       (0, omega arith, record { within = omega arith; fault = e; first = λ i l. absurd (omega arith) })
@@ -55,7 +55,9 @@ found_first line k h = here (fault_there Plain 0 line k h) where
 pub first_once : (line : List ℕ) (j k : ℕ) → FirstFault line j → FirstFault line k → j ≡ k
 first_once line j k f g =
     elim (eqb_tells j k) [
-      inl h ↦ h.1
-    | inr h ↦ elim (leb_tells j k) [
-        inl l ↦ clash _ (g.first j (omega (arith, h.1))) f.fault
-      | inr l ↦ clash _ (f.first k l.1) g.fault ] ]
+      | inl h ↦ h.1
+      | inr h ↦ elim (leb_tells j k) [
+        | inl l ↦ clash _ (g.first j (omega (arith, h.1))) f.fault
+        | inr l ↦ clash _ (f.first k l.1) g.fault
+      ]
+    ]

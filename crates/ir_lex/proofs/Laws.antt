@@ -24,12 +24,12 @@ cut_are zero at (b ∷ bs) =
     let f : at + 1 + 0 ≡ at + 1 = omega arith in
     let behind : AreTokens (at + 1) bs (cut_from 0 (at + 1) bs) = subst (λ (x : ℕ). AreTokens x bs (cut_from 0 (at + 1) bs)) f (cut_are zero (at + 1) bs) in
     subst (λ (x : ℕ). AreTokens x (b ∷ bs) (cut_from 0 at (b ∷ bs))) e (here (is_blank b) (b == semicolon) refl refl behind (cut_are (more_len b bs) (at + 1) bs)) where
-  here : (blank comment : Bool) → is_blank b ≡ blank → (b == semicolon) ≡ comment → AreTokens (at + 1) bs (cut_from 0 (at + 1) bs) →
-         AreTokens (at + 1 + more_len b bs) (drop (more_len b bs) bs) (cut_from (more_len b bs) (at + 1) bs) →
-         AreTokens at (b ∷ bs) (cond blank (cut_from 0 (at + 1) bs) (cond comment [] (record { from = at; to = at + 1 + more_len b bs } ∷ cut_from (more_len b bs) (at + 1) bs)))
-  here true comment e c behind next = Blank at b bs _ e behind
-  here false true e c behind next = subst (λ (x : ℕ). AreTokens at (x ∷ bs) []) (sym (eqb-true b semicolon c)) (Remark at bs)
-  here false false e c behind next = Next at b bs (more_len b bs) _ e c (longest_more b bs) next
+      here : (blank comment : Bool) → is_blank b ≡ blank → (b == semicolon) ≡ comment → AreTokens (at + 1) bs (cut_from 0 (at + 1) bs) →
+          AreTokens (at + 1 + more_len b bs) (drop (more_len b bs) bs) (cut_from (more_len b bs) (at + 1) bs) →
+          AreTokens at (b ∷ bs) (cond blank (cut_from 0 (at + 1) bs) (cond comment [] (record { from = at; to = at + 1 + more_len b bs } ∷ cut_from (more_len b bs) (at + 1) bs)))
+      here true comment e c behind next = Blank at b bs _ e behind
+      here false true e c behind next = subst (λ (x : ℕ). AreTokens at (x ∷ bs) []) (sym (eqb-true b semicolon c)) (Remark at bs)
+      here false false e c behind next = Next at b bs (more_len b bs) _ e c (longest_more b bs) next
 
 -- whatever the tokens are, the walk cuts them
 are_cut : {at : ℕ} {bs : List ℕ} {ts : List Token} → AreTokens at bs ts → ts ≡ cut_from 0 at bs
@@ -96,14 +96,14 @@ words_from line zero at (b ∷ bs) e =
     let next : drop (at + 1) line ≡ bs = drop_next line at b bs e in
     either_way (is_blank b) _ _ _ _ (words_from line 0 (at + 1) bs next)
     (either_way (b == semicolon) _ _ _ _ refl (token (more_len b bs) (words_from line (more_len b bs) (at + 1) bs next))) where
-  either_way : (t : Bool) (x y : List Token) (v w : List (List ℕ)) → words line x ≡ v → words line y ≡ w → words line (cond t x y) ≡ cond t v w
-  either_way true x y v w h k = h
-  either_way false x y v w h k = k
+      either_way : (t : Bool) (x y : List Token) (v w : List (List ℕ)) → words line x ≡ v → words line y ≡ w → words line (cond t x y) ≡ cond t v w
+      either_way true x y v w h k = h
+      either_way false x y v w h k = k
 
-  token : (n : ℕ) → words line (cut_from n (at + 1) bs) ≡ texts_from n bs → words line (record { from = at; to = at + 1 + n } ∷ cut_from n (at + 1) bs) ≡ (b ∷ take n bs) ∷ texts_from n bs
-  token n h =
-      let size : at + 1 + n - at ≡ suc n = omega arith in
-      rw (h, size, e) refl
+      token : (n : ℕ) → words line (cut_from n (at + 1) bs) ≡ texts_from n bs → words line (record { from = at; to = at + 1 + n } ∷ cut_from n (at + 1) bs) ≡ (b ∷ take n bs) ∷ texts_from n bs
+      token n h =
+          let size : at + 1 + n - at ≡ suc n = omega arith in
+          rw (h, size, e) refl
 
 -- the words of a line are its tokens' bytes
 pub words_of_line : (line : List ℕ) → words line (cut line) ≡ texts line

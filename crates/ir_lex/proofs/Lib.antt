@@ -2,6 +2,7 @@
 pub mod Again
 pub mod Classes
 pub mod Cutting
+mod Examples
 pub mod Faulty
 pub mod Laws
 pub mod Longer

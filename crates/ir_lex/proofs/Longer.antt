@@ -89,9 +89,10 @@ longest_run : (b : ℕ) (bs : List ℕ) → is_sigil b ≡ false → (b == quote
 longest_run b bs s q w = record {
   within = prefix_len-le-length is_word_byte bs;
   stands =
-    elim (either (is_mark b) (is_word_byte b) w) [
-      inl t ↦ Mark t (run_passes is_word_byte bs)
-    | inr t ↦ Run (rw t (run_passes is_word_byte bs)) ];
+      elim (either (is_mark b) (is_word_byte b) w) [
+        | inl t ↦ Mark t (run_passes is_word_byte bs)
+        | inr t ↦ Run (rw t (run_passes is_word_byte bs))
+      ];
   longest = λ m. most_run b bs m s q;
 }
 
@@ -99,9 +100,10 @@ longest_string : (b : ℕ) (bs : List ℕ) → is_sigil b ≡ false → (b == qu
 longest_string b bs s q = record {
   within = string_within bs;
   stands =
-    elim (string_stands bs) [
-      inl e ↦ rw e (Single refl)
-    | inr h ↦ Text (rw q h) ];
+      elim (string_stands bs) [
+        | inl e ↦ rw e (Single refl)
+        | inr h ↦ Text (rw q h)
+      ];
   longest = λ m. most_string b bs m s q;
 }
 
@@ -136,9 +138,10 @@ longest_number : (b c : ℕ) (cs : List ℕ) → is_sigil b ≡ true → (c == q
 longest_number b c cs s q n p = record {
   within = prefix_len-le-length is_digit (c ∷ cs);
   stands =
-    elim (digits_number (take (prefix_len is_digit (c ∷ cs)) (c ∷ cs)) (run_passes is_digit (c ∷ cs))) [
-      inl e ↦ Single e
-    | inr h ↦ Unnamed (eqb-true b 37 p) h ];
+      elim (digits_number (take (prefix_len is_digit (c ∷ cs)) (c ∷ cs)) (run_passes is_digit (c ∷ cs))) [
+        | inl e ↦ Single e
+        | inr h ↦ Unnamed (eqb-true b 37 p) h
+      ];
   longest = behind_sigil b c cs _ s (λ m. most_digits b c cs m q n);
 }
 

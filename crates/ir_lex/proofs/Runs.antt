@@ -52,7 +52,7 @@ unfolding string_len
 string_stands [] = inl refl
 string_stands (b ∷ bs) = longer b bs (string_len bs) (b == quote) refl (string_stands bs) where
   longer : (b : ℕ) (bs : List ℕ) (n : ℕ) (t : Bool) → (b == quote) ≡ t → (n ≡ 0) ⊎ (ends_string (take n bs) ≡ true) →
-           (cond t 1 (one_more n) ≡ 0) ⊎ (ends_string (take (cond t 1 (one_more n)) (b ∷ bs)) ≡ true)
+      (cond t 1 (one_more n) ≡ 0) ⊎ (ends_string (take (cond t 1 (one_more n)) (b ∷ bs)) ≡ true)
   longer b bs n true e h = inr (rw e refl)
   longer b bs zero false e h = inl refl
   longer b bs (suc n) false e (inl h) = cc
@@ -70,7 +70,7 @@ string_longest (b ∷ bs) (suc m) l h = longer b bs m (string_len bs) (b == quot
   empty_none (suc m) (b ∷ bs) l h = cc
 
   longer : (b : ℕ) (bs : List ℕ) (m n : ℕ) (t : Bool) → (b == quote) ≡ t → m ≤ length bs → ends_string (b ∷ take m bs) ≡ true → (ends_string (take m bs) ≡ true → m ≤ n) →
-           suc m ≤ cond t 1 (one_more n)
+      suc m ≤ cond t 1 (one_more n)
   longer b bs m n true e l h k = let z = empty_none m bs l (rw e at h) in omega arith
   longer b bs zero n false e l h k = let f = rw e at h in cc
   longer b bs (suc m) zero false e l h k = let z = k (rw e at h) in omega arith

@@ -63,7 +63,7 @@ pub data AreTokens : ℕ → List ℕ → List Token → Type 0 where
   Blank : (at b : ℕ) (bs : List ℕ) (ts : List Token) → is_blank b ≡ true → AreTokens (at + 1) bs ts → AreTokens at (b ∷ bs) ts
   -- any other byte begins a token, the longest that begins there, and the tokens behind it follow
   Next : (at b : ℕ) (bs : List ℕ) (n : ℕ) (ts : List Token) → is_blank b ≡ false → (b == semicolon) ≡ false → Longest b bs n →
-         AreTokens (at + 1 + n) (drop n bs) ts → AreTokens at (b ∷ bs) (record { from = at; to = at + 1 + n } ∷ ts)
+      AreTokens (at + 1 + n) (drop n bs) ts → AreTokens at (b ∷ bs) (record { from = at; to = at + 1 + n } ∷ ts)
 
 -- the line has no lexical fault, and `ts` are its tokens
 pub record Lexed (line : List ℕ) (ts : List Token) : Type 0 where

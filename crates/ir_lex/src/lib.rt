@@ -19,10 +19,9 @@ mod list;
 mod refusal;
 mod scan;
 
+use faults::first_fault;
 pub use list::{Token, Tokens};
 pub use refusal::LexRefusal;
-
-use faults::first_fault;
 use scan::cut;
 use std::alloc::Global;
 
@@ -59,3 +58,6 @@ pub fn text<'a>(line: &'a [u8], token: Token) -> &'a [u8]
     let size = (token.to.saturating_sub(token.from) as usize).min(behind.len());
     behind.split_at(size).0
 }
+
+#[cfg(test)]
+mod tests;
