@@ -1,17 +1,17 @@
 -- What bytes are cut into when others stand behind them: the laws by which what is printed is read again.
-use Rattle.std.proofs.Common.{◌≡◌, ℕ, suc, zero, ◌+◌, ◌-◌, ◌<◌, ◌≤◌, ◌==◌, ◌⊎◌, inl, inr, Bool, true, false, cond, not, ◌&&◌, ◌||◌, List, [], ◌∷◌, ◌++◌, length, take, drop, Option, Some, None, refl, sym, ◌∙◌, ap, subst, arith, eqb-true, append_assoc, ◌≢◌, length-append}
+use Rattle.std.proofs.Common.{◌≡◌, ℕ, suc, zero, ◌+◌, ◌≤◌, ◌==◌, inl, inr, Bool, true, false, cond, not, ◌&&◌, ◌||◌, List, [], ◌∷◌, ◌++◌, length, take, drop, Some, None, refl, sym, ◌∙◌, ap, subst, arith, eqb-true, ◌≢◌, length-append}
 use Rattle.std.proofs.Math.Seq.{take-length}
 use Rattle.std.proofs.lemmas.List.Folds.{list_any-append}
 use Rattle.ir_lex.proofs.Runs.{take_nothing}
 use Rattle.std.proofs.lemmas.List.{take-append-le, take-append-drop}
-use Rattle.std.specs.List.{list_all, list_any, prefix_len}
+use Rattle.std.specs.List.{list_all, prefix_len}
 use Rattle.ir_lex.specs.Bytes.{quote, semicolon, begins_name, is_word_byte, is_digit, is_sigil, is_mark, is_blank, is_control}
 use Rattle.ir_lex.specs.Faults.{enter, behind, opens, has_quote, begins_fault}
 use Rattle.ir_lex.specs.Tokens.{IsToken, Name, QuotedName, Unnamed, Text, Mark, Run, Single, Longest, is_string, ends_string, is_empty, is_name, is_number}
 use Rattle.ir_lex.specs.Scan.{one_more, string_len, name_len, more_len, texts_from, texts, fault_from}
 use Rattle.ir_lex.specs.declared.faults.Part.{Part}
 use Rattle.ir_lex.specs.declared.faults.Part.TheVariants.{Plain, Quoted, Comment}
-use Rattle.ir_lex.proofs.Classes.{both, either, neither, clash, by_quote, digit_word, name_word, no_word_no_name, mark_no_quote, percent_sigil, sigil_no_quote}
+use Rattle.ir_lex.proofs.Classes.{both, either, clash, by_quote, digit_word, name_word, no_word_no_name, mark_no_quote, percent_sigil, sigil_no_quote}
 use Rattle.ir_lex.proofs.Longer.{longest_more, longest_once, string_of_quote}
 
 -- the part of the line behind two pieces

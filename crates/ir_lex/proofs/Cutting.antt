@@ -1,5 +1,5 @@
 -- The walk that cuts a line, token by token.
-use Rattle.std.proofs.Common.{◌≡◌, ℕ, suc, zero, ◌+◌, ◌<◌, ◌≤◌, ◌≢◌, ◌==◌, Bool, ◌⊎◌, true, false, cond, List, [], ◌∷◌, ◌++◌, length, take, drop, get_or, refl, arith, length-drop, append_assoc, subst, inl, inr}
+use Rattle.std.proofs.Common.{◌≡◌, ℕ, suc, zero, ◌+◌, ◌≤◌, ◌≢◌, ◌==◌, false, List, [], ◌∷◌, ◌++◌, length, drop, get_or, refl, arith, length-drop, append_assoc, subst, inl, inr}
 use Rattle.std.proofs.lemmas.Bool.Decides.{eqb_tells}
 use Rattle.ir_lex.specs.Bytes.{semicolon, is_blank}
 use Rattle.ir_lex.specs.Scan.{more_len, cut_from}

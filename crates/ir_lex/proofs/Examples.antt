@@ -1,10 +1,10 @@
 -- The definitions at work on small lines.
-use Rattle.std.proofs.Common.{◌≡◌, ℕ, true, false, List, [], ◌∷◌, Some, refl}
+use Rattle.std.proofs.Common.{◌≡◌, true, false, [], ◌∷◌, Some, refl}
 use Rattle.std.specs.Prelude.{codes}
 use Rattle.ir_lex.specs.Bytes.{begins_name, is_word_byte, is_digit, is_sigil, is_mark, is_blank, is_control}
 use Rattle.ir_lex.specs.Faults.{behind, is_fault}
-use Rattle.ir_lex.specs.Tokens.{IsToken, Name, QuotedName, Unnamed, Text, Mark, Run, Single, AreTokens, End, Remark, Blank, Next}
-use Rattle.ir_lex.specs.Words.{word, words}
+use Rattle.ir_lex.specs.Tokens.{IsToken, Name, QuotedName, Unnamed, Text, Mark, Run, Single, AreTokens}
+use Rattle.ir_lex.specs.Words.{word}
 use Rattle.ir_lex.specs.Scan.{string_len, name_len, more_len, cut, texts, fault_from}
 use Rattle.ir_lex.specs.declared.faults.Part.TheVariants.{Plain, Quoted, Comment}
 use Rattle.ir_lex.proofs.Laws.{tokens_of_cut}

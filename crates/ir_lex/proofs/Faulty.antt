@@ -1,8 +1,8 @@
 -- The walk over a line finds its first fault.
-use Rattle.std.proofs.Common.{◌≡◌, ℕ, suc, zero, ◌+◌, ◌<◌, ◌≤◌, Bool, true, false, cond, List, [], ◌∷◌, length, take, drop, Option, Some, None, ◌⊎◌, inl, inr, refl, subst, arith}
+use Rattle.std.proofs.Common.{◌≡◌, ℕ, suc, zero, ◌+◌, ◌<◌, Bool, true, false, cond, List, [], ◌∷◌, length, take, drop, Some, None, inl, inr, refl, subst, arith}
 use Rattle.std.proofs.lemmas.Bool.Decides.{eqb_tells, leb_tells}
 use Rattle.ir_lex.proofs.Classes.{clash}
-use Rattle.ir_lex.specs.Faults.{enter, behind, begins_fault, is_fault, FirstFault}
+use Rattle.ir_lex.specs.Faults.{enter, behind, begins_fault, FirstFault}
 use Rattle.ir_lex.specs.Scan.{fault_from}
 use Rattle.ir_lex.specs.declared.faults.Part.{Part}
 use Rattle.ir_lex.specs.declared.faults.Part.TheVariants.{Plain}

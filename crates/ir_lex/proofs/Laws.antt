@@ -1,8 +1,8 @@
 -- The laws of tokens that crates above stand on: the tokens of a line are unique, and are those that the walk cuts.
-use Rattle.std.proofs.Common.{◌≡◌, ℕ, suc, zero, ◌+◌, ◌-◌, ◌<◌, ◌≤◌, ◌==◌, Bool, true, false, cond, List, [], ◌∷◌, length, take, drop, map, Option, Some, None, refl, sym, ◌∙◌, ap, subst, arith, eqb-true}
+use Rattle.std.proofs.Common.{◌≡◌, ℕ, suc, zero, ◌+◌, ◌-◌, ◌==◌, Bool, true, false, cond, List, [], ◌∷◌, take, drop, Option, Some, None, refl, sym, ◌∙◌, ap, subst, arith, eqb-true}
 use Rattle.ir_lex.specs.Bytes.{semicolon, is_blank}
 use Rattle.ir_lex.specs.Faults.{is_fault, FirstFault}
-use Rattle.ir_lex.specs.Tokens.{AreTokens, End, Remark, Blank, Next, Longest, Lexed}
+use Rattle.ir_lex.specs.Tokens.{AreTokens, End, Remark, Blank, Next, Lexed}
 use Rattle.ir_lex.specs.Words.{word, words}
 use Rattle.ir_lex.specs.Scan.{more_len, cut_from, cut, texts_from, texts, fault_from}
 use Rattle.ir_lex.specs.declared.list.Token.{Token}

@@ -1,9 +1,9 @@
 -- The walk takes the longest token.
-use Rattle.std.proofs.Common.{◌≡◌, ℕ, suc, zero, ◌+◌, ◌<◌, ◌≤◌, ◌==◌, ◌⊎◌, inl, inr, Bool, true, false, cond, ◌&&◌, ◌||◌, List, [], ◌∷◌, length, take, drop, refl, subst, sym, arith, eqb-true}
+use Rattle.std.proofs.Common.{◌≡◌, ℕ, suc, zero, ◌+◌, ◌≤◌, ◌==◌, ◌⊎◌, inl, inr, Bool, true, false, cond, ◌||◌, List, [], ◌∷◌, length, take, refl, arith, eqb-true}
 use Rattle.std.proofs.lemmas.List.Sums.{prefix_len-le-length}
 use Rattle.std.specs.List.{list_all, prefix_len}
 use Rattle.ir_lex.specs.Bytes.{quote, begins_name, is_word_byte, is_digit, is_sigil, is_mark}
-use Rattle.ir_lex.specs.Tokens.{IsToken, Name, QuotedName, Unnamed, Text, Mark, Run, Single, Longest, ends_string, is_string, is_name, is_number}
+use Rattle.ir_lex.specs.Tokens.{IsToken, Name, QuotedName, Unnamed, Text, Mark, Run, Single, Longest, ends_string}
 use Rattle.ir_lex.specs.Scan.{one_more, string_len, name_len, more_len}
 use Rattle.ir_lex.proofs.Classes.{both, either, neither, clash, sigil_no_quote, sigil_no_mark, sigil_no_word, percent_sigil, quote_no_mark, quote_no_word, quote_no_name, quote_no_digit, quote_no_sigil, digit_no_name}
 use Rattle.ir_lex.proofs.Runs.{run_passes, run_longest, string_within, string_stands, string_longest, take_nothing, digits_number}

@@ -1,7 +1,6 @@
 -- The refusal comes exactly at the first fault.
-use Rattle.std.proofs.Common.{◌≡◌, ◌+◌, ap, sym, refl, subst, arith, Err, Result}
+use Rattle.std.proofs.Common.{sym, refl, subst, arith}
 use Rattle.ir_lex.specs.Tokens.{Lexed}
-use Rattle.ir_lex.specs.declared.refusal.LexRefusal.TheVariants.{Lex}
 use Rattle.ir_lex.proofs.Classes.{clash}
 use Rattle.ir_lex.proofs.Faulty.{fault_absent, found_first, first_once}
 use Rattle.ir_lex.proofs.Laws.{lexed_by_cut}
