@@ -1,0 +1,9 @@
+-- What the proofs of the crate share, and the laws that crates above stand on.
+pub mod Again
+pub mod Classes
+pub mod Cutting
+mod Examples
+pub mod Faulty
+pub mod Laws
+pub mod Longer
+pub mod Runs

@@ -1,0 +1,6 @@
+-- What a token is, what the tokens of a line are, and what a lexical fault is.
+pub mod Bytes
+pub mod Faults
+pub mod Scan
+pub mod Tokens
+pub mod Words
