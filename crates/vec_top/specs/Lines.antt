@@ -1,0 +1,46 @@
+-- The lines of a text, and the words of a line.
+use Rattle.std.specs.Prelude.{◌≡◌, refl, ℕ, ◌==◌, Bool, true, false, ◌&&◌, Option, None, Some, List, [], ◌∷◌, codes, cond}
+use Rattle.std.specs.List.{list_any}
+use Rattle.ir_lex.specs.Bytes.{semicolon}
+use Rattle.ir_lex.specs.Scan.{fault_from, texts}
+use Rattle.ir_lex.specs.declared.faults.Part.TheVariants.{Plain}
+
+-- whether a line feed comes first
+abbrev pub begins_feed : List ℕ → Bool
+begins_feed [] = false
+begins_feed (b ∷ bs) = b == 10
+
+-- the lines with one more byte at the front of the first
+abbrev pub onto : ℕ → List (List ℕ) → List (List ℕ)
+onto b [] = (b ∷ []) ∷ []
+onto b (l ∷ ls) = (b ∷ l) ∷ ls
+
+-- the lines of a text: each ends at a line feed, and a carriage return just before that is dropped; a last piece without a line
+-- feed is a line where it is not empty
+abbrev pub lines_of : List ℕ → List (List ℕ)
+lines_of [] = []
+lines_of (b ∷ bs) =
+    cond (b == 10) ([] ∷ lines_of bs)
+    (cond (b == 13 && begins_feed bs) (lines_of bs)
+    (onto b (lines_of bs)))
+
+-- whether a line has a comment, or a string with a semicolon, of which the first forms have neither
+abbrev pub has_semicolon : List ℕ → Bool
+has_semicolon line = list_any (λ b. b == semicolon) line
+
+-- the words of a line without a fault
+abbrev pub sound_words : Option ℕ → List ℕ → Option (List (List ℕ))
+sound_words None line = Some (texts line)
+sound_words (Some _) line = None
+
+-- the words of a line: the bytes of its tokens; a line with a lexical fault or a comment has none
+abbrev pub words_of : List ℕ → Option (List (List ℕ))
+words_of line = cond (has_semicolon line) None (sound_words (fault_from Plain 0 line) line)
+
+-- two lines, the first ended as on another system, the last not ended
+two_lines : lines_of (codes "a\r\nb") ≡ codes "a" ∷ codes "b" ∷ []
+two_lines = refl
+
+-- an empty line is a line, and nothing is none
+empty_line : lines_of (codes "\n") ≡ [] ∷ []
+empty_line = refl

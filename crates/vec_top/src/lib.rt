@@ -1,0 +1,2 @@
+//! The program as a function of its words and streams.
+#![tactic(auto)]
