@@ -1,11 +1,12 @@
 -- Two calls of a source or a sink, one after the other, and counts that rise.
-use Rattle.std.proofs.Common.{ℕ, ◌+◌, ◌^◌, ◌≤◌, ◌-◌, List, ◌++◌, length, take, drop, inl, inr, subst, sym, ap, length-drop, arith}
+use Rattle.std.proofs.Common.{ℕ, ◌+◌, ◌^◌, ◌≤◌, ◌-◌, List, ◌++◌, length, take, drop, inl, inr, subst, sym, ap, length-drop, arith, None, Some}
 use Rattle.std.specs.Prelude.{Option}
 use Rattle.std.specs.Io.KnownBytes.{Appends, Consumes}
 use Rattle.std.proofs.KnownBytes.{Appends-trans, Consumes-trans}
 use Rattle.std.proofs.lemmas.List.{take_rest}
 use Rattle.std.proofs.Math.Seq.{take-add}
 use Rattle.vx_io.specs.Count.{Rose}
+use Rattle.vx_io.specs.Room.{UsesRoom}
 use Rattle.vx_io.specs.Bytes.{ConsumesSome}
 
 -- what was read before a read, and what it gave, were consumed in all
@@ -36,3 +37,10 @@ Rose-earlier before middle now (inr last) le small = inr (omega arith)
 pub Rose-zero : Rose 0 0 → ⊥
 Rose-zero (inl lt) = omega arith
 Rose-zero (inr last) = cc
+
+-- what two calls took used up no more room than both
+pub UsesRoom-more : (a b c : Option ℕ) (n m : ℕ) → UsesRoom a b n → UsesRoom b c m → UsesRoom a c (n + m)
+UsesRoom-more None b c n m first second = tt
+UsesRoom-more (Some x) None c n m first second = absurd first
+UsesRoom-more (Some x) (Some y) None n m first second = absurd second
+UsesRoom-more (Some x) (Some y) (Some z) n m first second = omega arith

@@ -4,3 +4,4 @@ pub mod Given
 pub mod Collected
 pub mod Bounded
 pub mod Counted
+pub mod Room

@@ -3,7 +3,7 @@
 //! The source never fails. The sink has its whole capacity from the start, and fails exactly where a piece does not fit in what
 //! is left of it. So with room for all bytes neither fails, whatever the memory does.
 
-ghost use Rattle.std.specs.Prelude.{◌≡◌, ◌↔◌, ◌+◌, ◌<◌, ◌≤◌, [], ◌++◌, length, min, take, drop, Some, IfOk, OnOk, OnErr, IsOk, IsErr, MatchResult};
+ghost use Rattle.std.specs.Prelude.{◌≡◌, ◌↔◌, ◌+◌, ◌-◌, ◌<◌, ◌≤◌, [], ◌++◌, length, min, take, drop, Some, IfOk, OnOk, OnErr, IsOk, IsErr, MatchResult};
 ghost use Rattle.std.specs.Io.KnownBytes.{Appends, Consumes, IsAtEnd, Keeps};
 ghost use Rattle.vx_io.specs.Count.{Rose};
 ghost use Rattle.vx_io.specs.Bounded.{after_taking, after_fault};
@@ -121,6 +121,8 @@ impl Sink for SteadySink {
     ghost taken = { λ s. Some s.taken };
 
     ghost faults = { λ s. s.faults };
+
+    ghost room = { λ s. Some (s.capacity - length s.taken) };
 
     fn write(&mut self, piece: &[u8]) -> Result<usize, Failed>
         requires { 0 < length piece.now }

@@ -2,10 +2,11 @@
 //!
 //! It takes no memory. A fault says that the sink failed: it has then taken a front of the bytes that lacks one or more.
 
-ghost use Rattle.std.specs.Prelude.{◌≡◌, ◌≤◌, OnOk, OnErr};
+ghost use Rattle.std.specs.Prelude.{◌≡◌, ◌≤◌, length, IfSome, IsOk, OnOk, OnErr};
 ghost use Rattle.std.specs.Io.KnownBytes.{Appends};
 ghost use Rattle.vx_io.specs.Count.{Rose};
 ghost use Rattle.vx_io.specs.Bytes.{AppendsFront};
+ghost use Rattle.vx_io.specs.Room.{UsesRoom};
 
 use crate::{Failed, Sink};
 use thiserror::Error;
@@ -23,6 +24,10 @@ pub fn write_all<O: Sink>(sink: &mut O, bytes: &[u8]) -> Result<(), WriteFault>
     ensures front { OnErr result (AppendsFront (O.taken sink.old) (O.taken sink.new) bytes.now) }
     ensures fault { OnErr result (Rose (O.faults sink.old) (O.faults sink.new)) }
     ensures never_falls { O.faults sink.old ≤ O.faults sink.new }
+
+    // Where the sink is sure of room for all bytes, they are taken.
+    ensures fits { IfSome (O.room sink.old) (λ k. length bytes.now ≤ k → IsOk result) }
+    ensures uses { OnOk result (UsesRoom (O.room sink.old) (O.room sink.new) (length bytes.now)) }
 {
     let mut done = 0;
     while done < bytes.len() {
