@@ -6,7 +6,7 @@ use Rattle.std.proofs.lemmas.Bool.Decides.{nat_tests}
 use mathlib.Core.Option.{some, some-injective, some-ne-none}
 use lib.ListN.{get_elem?}
 use Rattle.atomic_table.proofs.Lists.{at_set}
-use Rattle.atomic_table.specs.Table.{State, Me, Act, keeps, Allows, Splits, Joins, Final, Seen}
+use Rattle.atomic_table.specs.Table.{Me, keeps, Allows, Splits, Joins, Final, Seen}
 use Rattle.rg_ticket.specs.declared.hand.Hand.{Hand}
 use Rattle.rg_ticket.specs.Hands.{one_if, times, once_below, IsEachOnce, newcomer, spent, drew, shut, after_draw, after_split, joined}
 use Rattle.rg_ticket.specs.Rule.{total, Each, IsSound, IsKept, Holds, Draws}
@@ -44,68 +44,68 @@ both_empty xs ys a b = ap (λ l. l ++ ys) a ∙ b
 
 later : (limit word next : ℕ) (hands : List Hand) → word ≤ next → Each (IsSound limit word) hands → Each (IsSound limit next) hands
 later limit word next hands le old id v at = let s = old id v at in record {
-    ended_within = s.ended_within;
-    one_not_ended = s.one_not_ended;
-    none_left = λ some_ended. (let low = s.none_left some_ended in omega arith);
-    first_splits = s.first_splits;
-    spent_is_empty = s.spent_is_empty
-  }
+  ended_within = s.ended_within;
+  one_not_ended = s.one_not_ended;
+  none_left = λ some_ended. (let low = s.none_left some_ended in omega arith);
+  first_splits = s.first_splits;
+  spent_is_empty = s.spent_is_empty;
+}
 
 drawn_some : (limit word id : ℕ) (hands : List Hand) (v : Hand) → IsKept limit word hands → get_elem? hands id ≡ some v → v.ended ≡ false → word < limit
     → IsKept limit (word + 1) (set hands id (drew word v))
 drawn_some limit word id hands v kept at going room = let w : Hand = drew word v in let s = kept.sound id v at in
     let rises : min limit (word + 1) ≡ min limit word + 1 = omega arith in
     let stood : min limit word ≡ word = omega arith in record {
-    limit_in_range = kept.limit_in_range;
-    each_once = λ x.
-        let t = total_set (λ u. times x u.numbers) hands id v w at in
-        let was = kept.each_once x in
-        let more = times-append x v.numbers (word ∷ []) in
-        let step : once_below x (min limit (word + 1)) ≡ once_below x (min limit word) + one_if (word == x) =
-            subst (λ m. once_below x (min limit (word + 1)) ≡ once_below x m + one_if (word == x)) (sym stood)
-                (subst (λ m. once_below x m ≡ once_below x word + one_if (word == x)) (sym (rises ∙ ap (λ m. m + 1) stood)) (one_more x word)) in
-        omega arith;
-    as_many = (let t = total_set (λ u. length u.numbers) hands id v w at in let was = kept.as_many in let more = length-append v.numbers (word ∷ []) in omega arith);
-    passed_by_ended = (let t = total_set (λ u. u.ended_passes) hands id v w at in let was = kept.passed_by_ended in omega arith);
-    sound = each_set (IsSound limit (word + 1)) hands id w
-        (record {
+      limit_in_range = kept.limit_in_range;
+      each_once = λ x.
+          let t = total_set (λ u. times x u.numbers) hands id v w at in
+          let was = kept.each_once x in
+          let more = times-append x v.numbers (word ∷ []) in
+          let step : once_below x (min limit (word + 1)) ≡ once_below x (min limit word) + one_if (word == x) =
+          subst (λ m. once_below x (min limit (word + 1)) ≡ once_below x m + one_if (word == x)) (sym stood)
+          (subst (λ m. once_below x m ≡ once_below x word + one_if (word == x)) (sym (rises ∙ ap (λ m. m + 1) stood)) (one_more x word)) in
+          omega arith;
+      as_many = (let t = total_set (λ u. length u.numbers) hands id v w at in let was = kept.as_many in let more = length-append v.numbers (word ∷ []) in omega arith);
+      passed_by_ended = (let t = total_set (λ u. u.ended_passes) hands id v w at in let was = kept.passed_by_ended in omega arith);
+      sound = each_set (IsSound limit (word + 1)) hands id w
+          (record {
             ended_within = s.ended_within;
             one_not_ended = s.one_not_ended;
             none_left = λ some_ended. (let low = s.none_left some_ended in omega arith);
             first_splits = s.first_splits;
-            spent_is_empty = λ none. (let more = s.one_not_ended going in absurd (omega arith))
+            spent_is_empty = λ none. (let more = s.one_not_ended going in absurd (omega arith));
           })
-        (later limit word (word + 1) hands (omega arith) kept.sound);
-    one_first = (let t = total_set (λ u. one_if u.is_first) hands id v w at in let was = kept.one_first in omega arith);
-    few_splits = (let t = total_set (λ u. u.splits) hands id v w at in let was = kept.few_splits in omega arith);
-    all_stood_for = (let t = total_set (λ u. u.stands_for) hands id v w at in let r = total_set (λ u. u.splits) hands id v w at in let was = kept.all_stood_for in omega arith)
-  }
+          (later limit word (word + 1) hands (omega arith) kept.sound);
+      one_first = (let t = total_set (λ u. one_if u.is_first) hands id v w at in let was = kept.one_first in omega arith);
+      few_splits = (let t = total_set (λ u. u.splits) hands id v w at in let was = kept.few_splits in omega arith);
+      all_stood_for = (let t = total_set (λ u. u.stands_for) hands id v w at in let r = total_set (λ u. u.splits) hands id v w at in let was = kept.all_stood_for in omega arith);
+    }
 
 drawn_none : (limit word id : ℕ) (hands : List Hand) (v : Hand) → IsKept limit word hands → get_elem? hands id ≡ some v → v.ended ≡ false → limit ≤ word
     → IsKept limit (word + 1) (set hands id (shut v))
 drawn_none limit word id hands v kept at going over = let w : Hand = shut v in let s = kept.sound id v at in
     let stays : min limit (word + 1) ≡ min limit word = omega arith in record {
-    limit_in_range = kept.limit_in_range;
-    each_once = λ x.
-        let t = total_set (λ u. times x u.numbers) hands id v w at in
-        let was = kept.each_once x in
-        let same : once_below x (min limit (word + 1)) ≡ once_below x (min limit word) = ap (once_below x) stays in
-        omega arith;
-    as_many = (let t = total_set (λ u. length u.numbers) hands id v w at in let was = kept.as_many in omega arith);
-    passed_by_ended = (let t = total_set (λ u. u.ended_passes) hands id v w at in let was = kept.passed_by_ended in omega arith);
-    sound = each_set (IsSound limit (word + 1)) hands id w
-        (record {
+      limit_in_range = kept.limit_in_range;
+      each_once = λ x.
+          let t = total_set (λ u. times x u.numbers) hands id v w at in
+          let was = kept.each_once x in
+          let same : once_below x (min limit (word + 1)) ≡ once_below x (min limit word) = ap (once_below x) stays in
+          omega arith;
+      as_many = (let t = total_set (λ u. length u.numbers) hands id v w at in let was = kept.as_many in omega arith);
+      passed_by_ended = (let t = total_set (λ u. u.ended_passes) hands id v w at in let was = kept.passed_by_ended in omega arith);
+      sound = each_set (IsSound limit (word + 1)) hands id w
+          (record {
             ended_within = (let more = s.one_not_ended going in omega arith);
             one_not_ended = λ open_again. absurd (true≢false open_again);
             none_left = λ some_ended. omega arith;
             first_splits = s.first_splits;
-            spent_is_empty = s.spent_is_empty
+            spent_is_empty = s.spent_is_empty;
           })
-        (later limit word (word + 1) hands (omega arith) kept.sound);
-    one_first = (let t = total_set (λ u. one_if u.is_first) hands id v w at in let was = kept.one_first in omega arith);
-    few_splits = (let t = total_set (λ u. u.splits) hands id v w at in let was = kept.few_splits in omega arith);
-    all_stood_for = (let t = total_set (λ u. u.stands_for) hands id v w at in let r = total_set (λ u. u.splits) hands id v w at in let was = kept.all_stood_for in omega arith)
-  }
+          (later limit word (word + 1) hands (omega arith) kept.sound);
+      one_first = (let t = total_set (λ u. one_if u.is_first) hands id v w at in let was = kept.one_first in omega arith);
+      few_splits = (let t = total_set (λ u. u.splits) hands id v w at in let was = kept.few_splits in omega arith);
+      all_stood_for = (let t = total_set (λ u. u.stands_for) hands id v w at in let r = total_set (λ u. u.splits) hands id v w at in let was = kept.all_stood_for in omega arith);
+    }
 
 by_test : (limit word id : ℕ) (hands : List Hand) (v : Hand) (b : Bool) → nat_lt word limit ≡ b → IsKept limit word hands → get_elem? hands id ≡ some v → v.ended ≡ false
     → IsKept limit (word + 1) (set hands id (if b then drew word v else shut v))
@@ -120,9 +120,9 @@ drawn limit word id hands v told kept at going = subst (λ n. IsKept limit (word
 -- in a table that keeps the rule a hand has each number once at most
 has_once : (limit word id : ℕ) (hands : List Hand) (v : Hand) → IsKept limit word hands → get_elem? hands id ≡ some v → IsEachOnce limit v.numbers
 has_once limit word id hands v kept at = let low : min limit word ≤ limit = omega arith in record {
-    once = λ x. (let part = total_le (λ u. times x u.numbers) hands id v at in let all = kept.each_once x in let up = once_rises x (min limit word) limit low in omega arith);
-    few = (let part = total_le (λ u. length u.numbers) hands id v at in let all = kept.as_many in omega arith)
-  }
+  once = λ x. (let part = total_le (λ u. times x u.numbers) hands id v at in let all = kept.each_once x in let up = once_rises x (min limit word) limit low in omega arith);
+  few = (let part = total_le (λ u. length u.numbers) hands id v at in let all = kept.as_many in omega arith);
+}
 
 first_set : (words : List ℕ) (n : ℕ) → length words ≡ 1 → (length (slice_set words 0 n) ≡ 1) × (slice_index (slice_set words 0 n) 0 ≡ n)
 first_set [] n one = absurd (omega arith)
@@ -142,8 +142,11 @@ draws limit slots id me told going s holds _ at _ = let found : ℕ = slice_inde
       keeps,
       tt,
       (put.0, subst (λ n. IsKept limit n (set s.views id w)) (sym (put.1 ∙ near)) kept),
-      (refl, subst (λ n. IsEachOnce n w.numbers) (sym told) (has_once limit (found + 1) id (set s.views id w) w kept (set_there s.views id me.0 w at)),
-        λ some_ended. subst (λ n. n ≤ found) (sym told) ((holds.1.sound id me.0 at).none_left some_ended)),
+      (
+        refl,
+        subst (λ n. IsEachOnce n w.numbers) (sym told) (has_once limit (found + 1) id (set s.views id w) w kept (set_there s.views id me.0 w at)),
+        λ some_ended. subst (λ n. n ≤ found) (sym told) ((holds.1.sound id me.0 at).none_left some_ended),
+      ),
     )
 
 -- ---- a split
@@ -158,33 +161,35 @@ first_alone limit word id hands v kept at first = in_one (λ u. one_if u.is_firs
     (λ j u there none. (kept.sound j u there).first_splits (none_at u.is_first none)) at (kept.one_first ∙ sym (ap one_if first))
 
 pub splits : (limit id : ℕ) (v : Hand) → v.limit ≡ limit → v.is_first ≡ true → v.splits < 2 ^ 32 → Splits (Holds limit) id v (after_split v) (newcomer v.limit)
-splits limit id v told first few s holds at = let kept = holds.1 in let l : Hand = after_split v in let r : Hand = newcomer v.limit in let word : ℕ = slice_index s.words 0 in let sound = kept.sound id v at in
-    (holds.0, record {
-      limit_in_range = kept.limit_in_range;
-      each_once = λ x. (let t = total_cut (λ u. times x u.numbers) s.views id v l r at in let was = kept.each_once x in omega arith);
-      as_many = (let t = total_cut (λ u. length u.numbers) s.views id v l r at in let was = kept.as_many in omega arith);
-      passed_by_ended = (let t = total_cut (λ u. u.ended_passes) s.views id v l r at in let was = kept.passed_by_ended in omega arith);
-      sound = each_snoc (IsSound limit word) (set s.views id l) r
-          (record {
-              ended_within = omega arith;
-              one_not_ended = λ _. omega arith;
-              none_left = λ some_ended. absurd (omega arith);
-              first_splits = λ _. refl;
-              spent_is_empty = λ _. refl
-            })
-          (each_set (IsSound limit word) s.views id l
-            (record {
-                ended_within = sound.ended_within;
-                one_not_ended = sound.one_not_ended;
-                none_left = sound.none_left;
-                first_splits = λ other. absurd (true≢false (sym first ∙ other));
-                spent_is_empty = sound.spent_is_empty
-              })
-            kept.sound);
-      one_first = (let t = total_cut (λ u. one_if u.is_first) s.views id v l r at in let was = kept.one_first in omega arith);
-      few_splits = (let t = total_cut (λ u. u.splits) s.views id v l r at in let alone = first_alone limit word id s.views v kept at first in omega arith);
-      all_stood_for = (let t = total_cut (λ u. u.stands_for) s.views id v l r at in let q = total_cut (λ u. u.splits) s.views id v l r at in let was = kept.all_stood_for in omega arith)
-    })
+splits limit id v told first few s holds at = let kept = holds.1 in let l : Hand = after_split v in let r : Hand = newcomer v.limit in let word : ℕ = slice_index s.words 0 in let sound = kept.sound id v at in (
+  holds.0,
+  record {
+    limit_in_range = kept.limit_in_range;
+    each_once = λ x. (let t = total_cut (λ u. times x u.numbers) s.views id v l r at in let was = kept.each_once x in omega arith);
+    as_many = (let t = total_cut (λ u. length u.numbers) s.views id v l r at in let was = kept.as_many in omega arith);
+    passed_by_ended = (let t = total_cut (λ u. u.ended_passes) s.views id v l r at in let was = kept.passed_by_ended in omega arith);
+    sound = each_snoc (IsSound limit word) (set s.views id l) r
+        (record {
+          ended_within = omega arith;
+          one_not_ended = λ _. omega arith;
+          none_left = λ some_ended. absurd (omega arith);
+          first_splits = λ _. refl;
+          spent_is_empty = λ _. refl;
+        })
+        (each_set (IsSound limit word) s.views id l
+        (record {
+          ended_within = sound.ended_within;
+          one_not_ended = sound.one_not_ended;
+          none_left = sound.none_left;
+          first_splits = λ other. absurd (true≢false (sym first ∙ other));
+          spent_is_empty = sound.spent_is_empty;
+        })
+        kept.sound);
+    one_first = (let t = total_cut (λ u. one_if u.is_first) s.views id v l r at in let was = kept.one_first in omega arith);
+    few_splits = (let t = total_cut (λ u. u.splits) s.views id v l r at in let alone = first_alone limit word id s.views v kept at first in omega arith);
+    all_stood_for = (let t = total_cut (λ u. u.stands_for) s.views id v l r at in let q = total_cut (λ u. u.splits) s.views id v l r at in let was = kept.all_stood_for in omega arith);
+  },
+)
 
 -- ---- a join
 
@@ -192,34 +197,36 @@ pub joins : (limit id : ℕ) (v : Hand) (other : ℕ) (w : Hand) → w.is_first 
 joins limit id v other w not_first s holds at apart at' = let kept = holds.1 in let b : Hand = joined v w in let word : ℕ = slice_index s.words 0 in
     let there : get_elem? s.views other ≡ some w = ⊎_elim (λ h. absurd (apart h.0)) (λ h. h.1) (at_set s.views id other b w at') in
     let mine = kept.sound id v at in let theirs = kept.sound other w there in
-    let no_splits : w.splits ≡ 0 = theirs.first_splits not_first in let not_one : one_if w.is_first ≡ 0 = ap one_if not_first in
-    (holds.0, record {
-      limit_in_range = kept.limit_in_range;
-      each_once = λ x. (let t = total_join (λ u. times x u.numbers) s.views id other v w b spent at at' in let was = kept.each_once x in let both = times-append x v.numbers w.numbers in omega arith);
-      as_many = (let t = total_join (λ u. length u.numbers) s.views id other v w b spent at at' in let was = kept.as_many in let both = length-append v.numbers w.numbers in omega arith);
-      passed_by_ended = (let t = total_join (λ u. u.ended_passes) s.views id other v w b spent at at' in let was = kept.passed_by_ended in omega arith);
-      sound = each_set (IsSound limit word) (set s.views id b) other spent
-          (record {
+    let no_splits : w.splits ≡ 0 = theirs.first_splits not_first in let not_one : one_if w.is_first ≡ 0 = ap one_if not_first in (
+      holds.0,
+      record {
+        limit_in_range = kept.limit_in_range;
+        each_once = λ x. (let t = total_join (λ u. times x u.numbers) s.views id other v w b spent at at' in let was = kept.each_once x in let both = times-append x v.numbers w.numbers in omega arith);
+        as_many = (let t = total_join (λ u. length u.numbers) s.views id other v w b spent at at' in let was = kept.as_many in let both = length-append v.numbers w.numbers in omega arith);
+        passed_by_ended = (let t = total_join (λ u. u.ended_passes) s.views id other v w b spent at at' in let was = kept.passed_by_ended in omega arith);
+        sound = each_set (IsSound limit word) (set s.views id b) other spent
+            (record {
               ended_within = omega arith;
               one_not_ended = λ going. absurd (true≢false going);
               none_left = λ some_ended. absurd (omega arith);
               first_splits = λ _. refl;
-              spent_is_empty = λ _. refl
+              spent_is_empty = λ _. refl;
             })
-          (each_set (IsSound limit word) s.views id b
+            (each_set (IsSound limit word) s.views id b
             (record {
-                ended_within = (let p = mine.ended_within in let q = theirs.ended_within in omega arith);
-                one_not_ended = λ going. (let p = mine.one_not_ended going in let q = theirs.ended_within in omega arith);
-                none_left = λ some_ended. one_of limit word v.ended_passes w.ended_passes mine.none_left theirs.none_left some_ended;
-                first_splits = mine.first_splits;
-                spent_is_empty = λ none. both_empty v.numbers w.numbers (mine.spent_is_empty (omega arith)) (theirs.spent_is_empty (omega arith))
-              })
+              ended_within = (let p = mine.ended_within in let q = theirs.ended_within in omega arith);
+              one_not_ended = λ going. (let p = mine.one_not_ended going in let q = theirs.ended_within in omega arith);
+              none_left = λ some_ended. one_of limit word v.ended_passes w.ended_passes mine.none_left theirs.none_left some_ended;
+              first_splits = mine.first_splits;
+              spent_is_empty = λ none. both_empty v.numbers w.numbers (mine.spent_is_empty (omega arith)) (theirs.spent_is_empty (omega arith));
+            })
             kept.sound);
-      one_first = (let t = total_join (λ u. one_if u.is_first) s.views id other v w b spent at at' in let was = kept.one_first in omega arith);
-      few_splits = (let t = total_join (λ u. u.splits) s.views id other v w b spent at at' in let was = kept.few_splits in omega arith);
-      all_stood_for = (let t = total_join (λ u. u.stands_for) s.views id other v w b spent at at' in let q = total_join (λ u. u.splits) s.views id other v w b spent at at' in
-          let was = kept.all_stood_for in omega arith)
-    })
+        one_first = (let t = total_join (λ u. one_if u.is_first) s.views id other v w b spent at at' in let was = kept.one_first in omega arith);
+        few_splits = (let t = total_join (λ u. u.splits) s.views id other v w b spent at at' in let was = kept.few_splits in omega arith);
+        all_stood_for = (let t = total_join (λ u. u.stands_for) s.views id other v w b spent at at' in let q = total_join (λ u. u.splits) s.views id other v w b spent at at' in
+            let was = kept.all_stood_for in omega arith);
+      },
+    )
 
 -- ---- the end
 
@@ -232,11 +239,11 @@ ends : (limit word id : ℕ) (hands : List Hand) (v : Hand) → IsKept limit wor
     → ((x : ℕ) → times x v.numbers ≡ once_below x (min limit word)) × (word ≡ length v.numbers + v.ended_passes)
 ends limit word id hands v kept at first all = let stood = whole limit word id hands v kept at first all in
     let numbers : (x : ℕ) → total (λ u. times x u.numbers) hands ≡ times x v.numbers = λ x. in_one (λ u. u.stands_for) (λ u. times x u.numbers) hands id v
-        (λ j u there none. ap (times x) ((kept.sound j u there).spent_is_empty none)) at stood in
+    (λ j u there none. ap (times x) ((kept.sound j u there).spent_is_empty none)) at stood in
     let many : total (λ u. length u.numbers) hands ≡ length v.numbers = in_one (λ u. u.stands_for) (λ u. length u.numbers) hands id v
-        (λ j u there none. ap length ((kept.sound j u there).spent_is_empty none)) at stood in
+    (λ j u there none. ap length ((kept.sound j u there).spent_is_empty none)) at stood in
     let ended : total (λ u. u.ended_passes) hands ≡ v.ended_passes = in_one (λ u. u.stands_for) (λ u. u.ended_passes) hands id v
-        (λ j u there none. (let le = (kept.sound j u there).ended_within in omega arith)) at stood in
+    (λ j u there none. (let le = (kept.sound j u there).ended_within in omega arith)) at stood in
     let past = kept.passed_by_ended in let as_many = kept.as_many in
     ((λ x. sym (numbers x) ∙ kept.each_once x), omega arith)
 

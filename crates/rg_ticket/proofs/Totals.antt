@@ -1,10 +1,10 @@
 -- Sums over the hands as one hand changes or one is added, and how often a number stands in a longer list.
-use Rattle.std.proofs.Common.{◌≡◌, ℕ, zero, suc, ◌+◌, ◌<◌, ◌≤◌, List, [], ◌∷◌, ◌++◌, length, set, sym, refl, ap, subst, ⊎_elim, arith, ◌==◌}
+use Rattle.std.proofs.Common.{◌≡◌, ℕ, zero, suc, ◌+◌, ◌≤◌, List, [], ◌∷◌, ◌++◌, set, sym, refl, ap, subst, ⊎_elim, arith}
 use mathlib.Core.Option.{some, some-injective, some-ne-none}
 use lib.ListN.{get_elem?}
 use Rattle.atomic_table.proofs.Lists.{at_set, at_snoc}
 use Rattle.rg_ticket.specs.declared.hand.Hand.{Hand}
-use Rattle.rg_ticket.specs.Hands.{one_if, times}
+use Rattle.rg_ticket.specs.Hands.{times}
 use Rattle.rg_ticket.specs.Rule.{total, Each}
 
 pub total_set : (f : Hand → ℕ) (hands : List Hand) (id : ℕ) (v w : Hand) → get_elem? hands id ≡ some v → total f (set hands id w) + f v ≡ total f hands + f w

@@ -1,6 +1,6 @@
 -- The hand of a pass: what was drawn through it and what it stands for, and how each call changes it.
 -- Lists of numbers are compared by how often each number stands in them, so that joining needs no order.
-use Rattle.std.specs.Prelude.{◌≡◌, ℕ, ◌+◌, ◌<◌, ◌≤◌, Bool, true, false, List, [], ◌∷◌, ◌++◌, length, nat_lt, ◌==◌, if◌then◌else◌}
+use Rattle.std.specs.Prelude.{ℕ, ◌+◌, ◌≤◌, Bool, true, false, List, [], ◌∷◌, ◌++◌, length, nat_lt, ◌==◌, if◌then◌else◌}
 use Rattle.rg_ticket.specs.declared.hand.Hand.{Hand}
 
 abbrev pub one_if : Bool → ℕ

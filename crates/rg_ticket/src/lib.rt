@@ -13,10 +13,9 @@ mod calls;
 mod hand;
 mod pass;
 mod rule;
-mod tickets;
-
 #[cfg(test)]
 mod tests;
+mod tickets;
 
 pub use calls::make;
 pub use hand::Hand;

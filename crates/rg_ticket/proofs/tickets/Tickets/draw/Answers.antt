@@ -1,4 +1,4 @@
-use Rattle.std.proofs.Common.{rules, ◌∙◌}
+use Rattle.std.proofs.Common.{rules}
 use Rattle.rg_ticket.proofs.Steps.{draws}
 use Rattle.rg_ticket.proofs.tickets.Tickets.draw.Goals as goal
 
