@@ -1,5 +1,5 @@
 -- Each step keeps the rule of the tickets, and what the rule tells at the end.
--- `draws`, `splits` and `joins` are what the three kinds of step owe, `ends` is for `close`.
+-- `draws`, `splits` and `joins` are what the three kinds of step owe, `closes` and `gives_new` what `close` and `draw` tell.
 use Rattle.std.proofs.Common.{◌≡◌, ℕ, zero, suc, ◌+◌, ◌%◌, ◌^◌, ◌<◌, ◌≤◌, Bool, true, false, min, List, [], ◌∷◌, ◌++◌, length, set, sym, refl, ap, ◌∙◌, subst, ⊎_elim, arith, ◌==◌, nat_lt, if◌then◌else◌, length-append, true≢false}
 use Rattle.std.specs.Prelude.{slice_index, slice_set}
 use Rattle.std.proofs.lemmas.Bool.Decides.{nat_tests}
@@ -10,7 +10,7 @@ use Rattle.atomic_table.specs.Table.{Me, keeps, Allows, Splits, Joins, Final, Se
 use Rattle.rg_ticket.specs.declared.hand.Hand.{Hand}
 use Rattle.rg_ticket.specs.Hands.{one_if, times, once_below, IsEachOnce, newcomer, spent, drew, shut, after_draw, after_split, joined}
 use Rattle.rg_ticket.specs.Rule.{total, Each, IsSound, IsKept, Holds, Draws}
-use Rattle.rg_ticket.proofs.Totals.{total_set, total_cut, total_join, total_le, total_below, in_one, each_set, each_snoc, times-append}
+use Rattle.rg_ticket.proofs.Totals.{total_set, total_cut, total_join, total_le, total_below, in_one, each_set, each_snoc, times-append, new_number}
 
 -- ---- numbers and tests
 
@@ -257,3 +257,15 @@ closes limit key id v words slots word told final at first all = let s = final.0
     let found : slice_index s.words 0 ≡ word = ap (λ l. slice_index l 0) final.2 ∙ first_of_words words word at in
     let kept : IsKept limit word s.views = subst (λ n. IsKept n word s.views) (sym told) (subst (λ n. IsKept key n s.views) found final.1.0.1) in
     ends limit word id s.views v kept final.1.1 first all
+
+-- ---- a number that is given is new
+
+is_below : (a b : ℕ) → a < b → nat_lt a b ≡ true
+is_below a b lt = grind (arith, nat_tests)
+
+new_by_test : (found limit : ℕ) (v : Hand) (b : Bool) → b ≡ true → IsEachOnce limit (if b then drew found v else shut v).numbers → times found v.numbers ≡ 0
+new_by_test found limit v true e each = new_number limit found v.numbers each
+new_by_test found limit v false e each = absurd (true≢false (sym e))
+
+pub gives_new : (found limit : ℕ) (v : Hand) → v.limit ≡ limit → found < limit → IsEachOnce v.limit (after_draw found v).numbers → times found v.numbers ≡ 0
+gives_new found limit v told lt each = new_by_test found v.limit v (nat_lt found v.limit) (is_below found v.limit (subst (λ n. found < n) (sym told) lt)) each

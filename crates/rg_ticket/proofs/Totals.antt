@@ -4,7 +4,8 @@ use mathlib.Core.Option.{some, some-injective, some-ne-none}
 use lib.ListN.{get_elem?}
 use Rattle.atomic_table.proofs.Lists.{at_set, at_snoc}
 use Rattle.rg_ticket.specs.declared.hand.Hand.{Hand}
-use Rattle.rg_ticket.specs.Hands.{times}
+use Rattle.std.proofs.lemmas.Bool.Decides.{nat_tests}
+use Rattle.rg_ticket.specs.Hands.{IsEachOnce, times}
 use Rattle.rg_ticket.specs.Rule.{total, Each}
 
 pub total_set : (f : Hand → ℕ) (hands : List Hand) (id : ℕ) (v w : Hand) → get_elem? hands id ≡ some v → total f (set hands id w) + f v ≡ total f hands + f w
@@ -58,3 +59,7 @@ each_snoc F hands w new old j u at = ⊎_elim (λ h. old j u h) (λ h. subst F h
 pub times-append : (x : ℕ) (xs ys : List ℕ) → times x (xs ++ ys) ≡ times x xs + times x ys
 times-append x [] ys = omega arith
 times-append x (y ∷ xs) ys = let rest = times-append x xs ys in omega arith
+
+-- what stands last in a list that has each number once stands nowhere before
+pub new_number : (limit k : ℕ) (xs : List ℕ) → IsEachOnce limit (xs ++ k ∷ []) → times k xs ≡ 0
+new_number limit k xs each = let once = each.once k in let more = times-append k xs (k ∷ []) in grind (arith, nat_tests)

@@ -32,6 +32,8 @@ impl Tickets {
         requires not_ended { (view pass.old).ended ≡ false }
         ensures own { IsPassOf self.now pass.new }
         ensures number { IfSome result (λ k. (k < limit_of self.now) × (view pass.new ≡ drew k (view pass.old))) }
+        // no earlier draw through the passes that it stands for gave it
+        ensures new { IfSome result (λ k. times k (view pass.old).numbers ≡ 0) }
         ensures none { IfNone result (view pass.new ≡ shut (view pass.old)) }
         // the word that was found tells both the answer and the hand
         ensures word { (found : ℕ) × (IsNone result ↔ (limit_of self.now ≤ found)) × (view pass.new ≡ after_draw found (view pass.old)) }
