@@ -1,4 +1,4 @@
--- Small worked examples of the definitions: hands after draws, splits and joins, and one state that the rule allows.
+-- Small worked examples of the definitions: hands after draws, splits and joins, and a state that the rule forbids.
 use Rattle.std.proofs.Common.{◌≡◌, ℕ, ◌+◌, min, [], ◌∷◌, refl, arith}
 use Rattle.rg_ticket.specs.declared.hand.Hand.{Hand}
 use Rattle.rg_ticket.specs.Hands.{times, once_below, first_hand, newcomer, drew, shut, after_draw, after_split, joined}

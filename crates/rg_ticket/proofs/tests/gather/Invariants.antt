@@ -1,3 +1,4 @@
+-- The first pass stands for the passes joined so far, and those left stand for one each.
 use Rattle.std.proofs.Common.{◌≡◌, ◌+◌, false, All, vec_len}
 use Rattle.rg_ticket.specs.Passes.{view, IsPassOf}
 use Rattle.rg_ticket.proofs.tests.gather.Given as goal

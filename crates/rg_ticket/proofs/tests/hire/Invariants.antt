@@ -1,3 +1,4 @@
+-- As many passes were split off as there are drawers, each fresh.
 use Rattle.std.proofs.Common.{◌≡◌, true, false, All, vec_len}
 use Rattle.rg_ticket.specs.Passes.{view, IsPassOf}
 use Rattle.rg_ticket.proofs.tests.hire.Given as goal

@@ -1,3 +1,4 @@
+-- The pass keeps its role while it draws, and its list grows up to the limit.
 use Rattle.std.proofs.Common.{◌≡◌, false, length, ◌-◌}
 use Rattle.rg_ticket.specs.Passes.{view, limit_of, IsPassOf}
 use Rattle.rg_ticket.proofs.tests.Drawer.run.Given as goal

@@ -1,3 +1,4 @@
+-- What the last state of the table tells of the first pass and the word.
 use Rattle.rg_ticket.proofs.Steps.{closes}
 use Rattle.rg_ticket.proofs.tickets.Tickets.close.Goals as goal
 

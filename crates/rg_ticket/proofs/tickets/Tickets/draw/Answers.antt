@@ -1,3 +1,4 @@
+-- What the draw owes the table, and that the number given is new to the pass.
 use Rattle.std.proofs.Common.{rules}
 use Rattle.rg_ticket.proofs.Steps.{draws, gives_new}
 use Rattle.rg_ticket.proofs.tickets.Tickets.draw.Goals as goal

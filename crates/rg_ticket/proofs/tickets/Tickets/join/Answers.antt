@@ -1,3 +1,4 @@
+-- What the join owes the table.
 use Rattle.std.proofs.Common.{rules}
 use Rattle.rg_ticket.proofs.Steps.{joins}
 use Rattle.rg_ticket.proofs.tickets.Tickets.join.Goals as goal

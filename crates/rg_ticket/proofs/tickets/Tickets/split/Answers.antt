@@ -1,3 +1,4 @@
+-- What the split owes the table.
 use Rattle.std.proofs.Common.{rules}
 use Rattle.rg_ticket.proofs.Steps.{splits}
 use Rattle.rg_ticket.proofs.tickets.Tickets.split.Goals as goal
