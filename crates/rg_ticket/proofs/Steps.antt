@@ -1,5 +1,5 @@
 -- Each step keeps the rule of the tickets, and what the rule tells at the end.
--- `draws`, `splits` and `joins` are what the three kinds of step owe, `closes` and `gives_new` what `close` and `draw` tell.
+-- `draws`, `splits` and `joins` are what the three kinds of step owe, `closes` what `close` tells.
 use Rattle.std.proofs.Common.{◌≡◌, ℕ, zero, suc, ◌+◌, ◌%◌, ◌^◌, ◌<◌, ◌≤◌, Bool, true, false, min, List, [], ◌∷◌, ◌++◌, length, set, sym, refl, ap, ◌∙◌, subst, ⊎_elim, arith, ◌==◌, nat_lt, if◌then◌else◌, length-append, true≢false}
 use Rattle.std.specs.Prelude.{slice_index, slice_set}
 use Rattle.std.proofs.lemmas.Bool.Decides.{nat_tests}
@@ -124,6 +124,18 @@ has_once limit word id hands v kept at = let low : min limit word ≤ limit = om
   few = (let part = total_le (λ u. length u.numbers) hands id v at in let all = kept.as_many in omega arith);
 }
 
+-- ---- a number that is given is new
+
+is_below : (a b : ℕ) → a < b → nat_lt a b ≡ true
+is_below a b lt = grind (arith, nat_tests)
+
+new_by_test : (found limit : ℕ) (v : Hand) (b : Bool) → b ≡ true → IsEachOnce limit (if b then drew found v else shut v).numbers → times found v.numbers ≡ 0
+new_by_test found limit v true e each = new_number limit found v.numbers each
+new_by_test found limit v false e each = absurd (true≢false (sym e))
+
+gives_new : (found limit : ℕ) (v : Hand) → v.limit ≡ limit → IsEachOnce limit (after_draw found v).numbers → found < v.limit → times found v.numbers ≡ 0
+gives_new found limit v told each lt = new_by_test found limit v (nat_lt found v.limit) (is_below found v.limit lt) each
+
 first_set : (words : List ℕ) (n : ℕ) → length words ≡ 1 → (length (slice_set words 0 n) ≡ 1) × (slice_index (slice_set words 0 n) 0 ≡ n)
 first_set [] n one = absurd (omega arith)
 first_set (x ∷ xs) n one = (one, refl)
@@ -137,6 +149,7 @@ pub draws : (limit slots id : ℕ) (me : Me (Unit {0}) Hand) → me.0.limit ≡ 
 draws limit slots id me told going s holds _ at _ = let found : ℕ = slice_index s.words 0 in let w : Hand = after_draw found me.0 in
     let kept = drawn limit found id s.views me.0 told holds.1 at going in
     let near : (found + 1) % 2 ^ 64 ≡ found + 1 = (let f = far limit found s.views holds.1 in omega arith) in
+    let each = has_once limit (found + 1) id (set s.views id w) w kept (set_there s.views id me.0 w at) in
     let put = first_set s.words ((found + 1) % 2 ^ 64) holds.0 in (
       w,
       keeps,
@@ -144,8 +157,9 @@ draws limit slots id me told going s holds _ at _ = let found : ℕ = slice_inde
       (put.0, subst (λ n. IsKept limit n (set s.views id w)) (sym (put.1 ∙ near)) kept),
       (
         refl,
-        subst (λ n. IsEachOnce n w.numbers) (sym told) (has_once limit (found + 1) id (set s.views id w) w kept (set_there s.views id me.0 w at)),
-        λ some_ended. subst (λ n. n ≤ found) (sym told) ((holds.1.sound id me.0 at).none_left some_ended),
+        subst (λ n. IsEachOnce n w.numbers) (sym told) each,
+        (λ some_ended. subst (λ n. n ≤ found) (sym told) ((holds.1.sound id me.0 at).none_left some_ended)),
+        gives_new found limit me.0 told each,
       ),
     )
 
@@ -257,15 +271,3 @@ closes limit key id v words slots word told final at first all = let s = final.0
     let found : slice_index s.words 0 ≡ word = ap (λ l. slice_index l 0) final.2 ∙ first_of_words words word at in
     let kept : IsKept limit word s.views = subst (λ n. IsKept n word s.views) (sym told) (subst (λ n. IsKept key n s.views) found final.1.0.1) in
     ends limit word id s.views v kept final.1.1 first all
-
--- ---- a number that is given is new
-
-is_below : (a b : ℕ) → a < b → nat_lt a b ≡ true
-is_below a b lt = grind (arith, nat_tests)
-
-new_by_test : (found limit : ℕ) (v : Hand) (b : Bool) → b ≡ true → IsEachOnce limit (if b then drew found v else shut v).numbers → times found v.numbers ≡ 0
-new_by_test found limit v true e each = new_number limit found v.numbers each
-new_by_test found limit v false e each = absurd (true≢false (sym e))
-
-pub gives_new : (found limit : ℕ) (v : Hand) → v.limit ≡ limit → found < limit → IsEachOnce v.limit (after_draw found v).numbers → times found v.numbers ≡ 0
-gives_new found limit v told lt each = new_by_test found v.limit v (nat_lt found v.limit) (is_below found v.limit (subst (λ n. found < n) (sym told) lt)) each

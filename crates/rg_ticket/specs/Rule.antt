@@ -48,7 +48,7 @@ pub record IsKept (limit word : ℕ) (hands : List Hand) : Type 0 where
 abbrev pub Holds : ℕ → State (Unit {0}) Hand → Type 0
 Holds limit s = (length s.words ≡ 1) × IsKept limit (slice_index s.words 0) s.views
 
--- what a draw tells its pass: the word that it found says what its hand is now
+-- what a draw tells its pass: the word that it found says what its hand is now, and a word below the limit stood not in its list
 abbrev pub Draws : Me (Unit {0}) Hand → ℕ → Me (Unit {0}) Hand → Type 0
 Draws before found after = (after ≡ (after_draw found before.0, before.1)) × IsEachOnce before.0.limit (after_draw found before.0).numbers
-    × (0 < before.0.ended_passes → before.0.limit ≤ found)
+    × (0 < before.0.ended_passes → before.0.limit ≤ found) × (found < before.0.limit → times found before.0.numbers ≡ 0)
