@@ -1,0 +1,4 @@
+-- The lemmas: sums over hands, the steps, and examples.
+pub mod Totals
+pub mod Steps
+pub mod Examples
