@@ -2,3 +2,4 @@
 pub mod Lines
 pub mod Forms
 pub mod Reads
+pub mod Gives

@@ -2,8 +2,7 @@
 use Rattle.std.specs.Prelude.{◌≡◌, refl, ℕ, ◌==◌, Bool, true, false, ◌&&◌, Option, None, Some, List, [], ◌∷◌, codes, cond}
 use Rattle.std.specs.List.{list_any}
 use Rattle.ir_lex.specs.Bytes.{semicolon}
-use Rattle.ir_lex.specs.Scan.{fault_from, texts}
-use Rattle.ir_lex.specs.declared.faults.Part.TheVariants.{Plain}
+use Rattle.ir_lex.specs.Scan.{fault_of, texts}
 
 -- whether a line feed comes first
 abbrev pub begins_feed : List ℕ → Bool
@@ -35,7 +34,7 @@ sound_words (Some _) line = None
 
 -- the words of a line: the bytes of its tokens; a line with a lexical fault or a comment has none
 abbrev pub words_of : List ℕ → Option (List (List ℕ))
-words_of line = cond (has_semicolon line) None (sound_words (fault_from Plain 0 line) line)
+words_of line = cond (has_semicolon line) None (sound_words (fault_of line) line)
 
 -- two lines, the first ended as on another system, the last not ended
 two_lines : lines_of (codes "a\r\nb") ≡ codes "a" ∷ codes "b" ∷ []

@@ -15,6 +15,7 @@ use Rattle.ir_types.specs.declared.func.Func.{Func}
 use Rattle.ir_types.specs.declared.module.Item.{Item}
 use Rattle.ir_types.specs.declared.module.Item.TheVariants.{Func as FuncItem}
 use Rattle.ir_types.specs.declared.module.Module.{Module}
+use Rattle.vec_top.specs.declared.first_forms.scope.Value.{Value}
 use Rattle.vec_top.specs.Lines.{lines_of, words_of}
 use Rattle.vec_top.specs.Forms.{Known, Words, ◌>>=◌, known_as, expect, one, at_end, symbol_name, local_name, begins_local, Act, effect_form, value_form}
 
@@ -23,7 +24,7 @@ pub record Open : Type 0 where
   pub name : List ℕ
   pub params : List Param
   pub insts : List Inst
-  pub known : List Known
+  pub known : Known
   pub next : ℕ
   pub returned : Bool
 
@@ -32,7 +33,7 @@ abbrev pub id_of : ℕ → Id
 id_of k = record { region = 0; k = k }
 
 -- a value more is known, where nothing is by that name
-abbrev pub fresh_among : List Known → List ℕ → Option (List ℕ)
+abbrev pub fresh_among : Known → List ℕ → Option (List ℕ)
 fresh_among ks name = cond (is_none (known_as name ks)) (Some name) None
 
 -- the type of a parameter
@@ -42,8 +43,8 @@ param_ty word = cond (bytes_eq word (codes "ptr")) (Some Ptr) (cond (bytes_eq wo
 abbrev pub with_param : Open → Ty → List ℕ → Open
 with_param st ty name = record st {
   params = st.params ++ record { id = id_of st.next; name = Some name; ty = ty; attrs = []; noalias = false } ∷ [];
-  known = record { name = name; ty = ty; id = id_of st.next } ∷ st.known;
-  next = st.next + 1
+  known = st.known ++ (name, record { ty = ty; id = id_of st.next }) ∷ [];
+  next = st.next + 1;
 }
 
 -- one parameter
@@ -58,8 +59,8 @@ param_form st ty_word word = do
 abbrev pub params_form : Open → Words → Option (Open × Words)
 params_form st (ty ∷ name ∷ sep ∷ ws) =
     param_form st ty name >>= (λ after.
-      cond (bytes_eq sep (codes ",")) (params_form after ws)
-      (cond (bytes_eq sep (codes ")")) (Some (after, ws)) None))
+    cond (bytes_eq sep (codes ",")) (params_form after ws)
+    (cond (bytes_eq sep (codes ")")) (Some (after, ws)) None))
 params_form st _ = None
 
 -- what stands between the parentheses
@@ -96,8 +97,8 @@ with_effect st a = record st { insts = st.insts ++ inst_of st None a ∷ []; nex
 abbrev pub with_value : Open → List ℕ → Act → Open
 with_value st name a = record st {
   insts = st.insts ++ inst_of st (Some name) a ∷ [];
-  known = record { name = name; ty = a.ty; id = id_of st.next } ∷ st.known;
-  next = st.next + 1
+  known = st.known ++ (name, record { ty = a.ty; id = id_of st.next }) ∷ [];
+  next = st.next + 1;
 }
 
 abbrev pub effect_line : Open → Words → Option Open
