@@ -3,7 +3,9 @@
 use Rattle.std.specs.Prelude.{◌≡◌, refl, ℕ, ◌+◌, ◌-◌, ◌*◌, ◌^◌, ◌==◌, Bool, true, false, not, ◌&&◌, ◌||◌, Option, None, Some, List, [], ◌∷◌, ◌++◌, codes, cond, nat_eq, nat_lt, nat_le, option_and_then}
 use Rattle.std.specs.Str.{bytes_eq}
 use Rattle.std.specs.Map.{lookup}
+use Rattle.vx_num.specs.declared.operations.Flags.{Flags}
 use Rattle.vec_top.specs.declared.first_forms.scope.Value.{Value}
+use Rattle.vec_top.specs.declared.first_forms.forms.Act.{Act}
 use Rattle.std.specs.Int.{is_power_of_two}
 use Rattle.vx_num.specs.declared.operations.BinOp.TheVariants.{Add}
 use Rattle.ir_lex.specs.Bytes.{begins_name, is_digit}
@@ -132,14 +134,18 @@ abbrev pub at_end : {A : Type 0} → Words → A → Option A
 at_end [] a = Some a
 at_end (w ∷ ws) a = None
 
--- `, align N` at the end of a line, or nothing, which is an align of 1
-unfoldable pub align_at : Words → Option ℕ
-align_at [] = Some 1
-align_at (w ∷ ws) = do
-  a ← expect (codes ",") (w ∷ ws)
+-- `, align N` at the end of a line
+unfoldable pub given_align : Words → Option ℕ
+given_align ws = do
+  a ← expect (codes ",") ws
   b ← expect (codes "align") a
   n ← one align_of b
   at_end n.1 n.0
+
+-- the same, or nothing, which is an align of 1
+abbrev pub align_at : Words → Option ℕ
+align_at [] = Some 1
+align_at (w ∷ ws) = given_align (w ∷ ws)
 
 -- `, ptr P` and an align at the end of a line
 unfoldable pub place_at : Known → Words → Option (Opd × ℕ)
@@ -149,12 +155,6 @@ place_at ks ws = do
   p ← one (pointer_operand ks) b
   n ← align_at p.1
   Some (p.0, n)
-
--- what a statement does: the type of its result or of what it stores, its operation and its operands
-pub record Act : Type 0 where
-  pub ty : Ty
-  pub op : Op
-  pub opds : List Opd
 
 abbrev pub act : Ty → Op → List Opd → Act
 act ty op opds = record { ty = ty; op = op; opds = opds }
@@ -166,14 +166,23 @@ load_form ks ws = do
   p ← place_at ks a
   Some (act (Int 32) (Load p.1) (p.0 ∷ []))
 
+-- `A, B` at the end of a line
+unfoldable pub numbers_at : Known → Words → Option (Opd × Opd)
+numbers_at ks ws = do
+  x ← one (number_operand ks) ws
+  a ← expect (codes ",") x.1
+  y ← one (number_operand ks) a
+  at_end y.1 (x.0, y.0)
+
+abbrev pub no_flags : Flags
+no_flags = record { nuw = false; nsw = false; exact = false; disjoint = false }
+
 -- `add i32 A, B`
 unfoldable pub add_form : Known → Words → Option Act
 add_form ks ws = do
   a ← expect (codes "i32") ws
-  x ← one (number_operand ks) a
-  b ← expect (codes ",") x.1
-  y ← one (number_operand ks) b
-  at_end y.1 (act (Int 32) (Bin Add (record { nuw = false; nsw = false; exact = false; disjoint = false })) (x.0 ∷ y.0 ∷ []))
+  x ← numbers_at ks a
+  Some (act (Int 32) (Bin Add no_flags) (x.0 ∷ x.1 ∷ []))
 
 -- `getelementptr i8, ptr P, i64 C`
 unfoldable pub index_at : Words → Option Opd
@@ -215,6 +224,9 @@ lane_at ws = do
   a ← expect (codes "i32") ws
   one (literal_of 32) a
 
+abbrev pub pair_opd : ℕ → ℕ → Opd
+pair_opd a b = Lit (record { ty = Row 2 32; lanes = Some a ∷ Some b ∷ [] })
+
 -- `<i32 A, i32 B>`
 unfoldable pub pair_at : Words → Option (Opd × Words)
 pair_at ws = do
@@ -223,7 +235,7 @@ pair_at ws = do
   b ← expect (codes ",") x.1
   y ← lane_at b
   c ← expect (codes ">") y.1
-  Some (Lit (record { ty = Row 2 32; lanes = Some x.0 ∷ Some y.0 ∷ [] }), c)
+  Some (pair_opd x.0 y.0, c)
 
 -- `store <2 x i32> <i32 A, i32 B>, ptr P, align N`
 unfoldable pub vector_store : Known → Words → Option Act

@@ -2,7 +2,11 @@
 //!
 //! `module_of` is its entry point. It refuses by the number of the first line that cannot stand; want of memory is separate.
 
+mod forms;
+mod function;
+mod operands;
 mod pieces;
+mod reader;
 mod refusal;
 mod scope;
 

@@ -41,6 +41,16 @@ pub(crate) fn expect<'a>(
     }
 }
 
+/// An answer, where nothing is left of the line.
+pub(crate) fn finish<T: Drop>(line: &[u8], place: &[Token], answer: T) -> Result<T, LineRefusal>
+    ensures { Gives (λ x. x) result (forms.at_end (words line.now place.now) answer) }
+{
+    match place {
+        [] => Ok(answer),
+        _ => Err(LineRefusal::NotALine),
+    }
+}
+
 /// A byte that a plain name begins with: a letter, `-`, `$`, `.` or `_`.
 #[tactic(auto, unfolding(ir_lex::specs::Bytes::begins_name))]
 fn begins_name(b: u8) -> bool
