@@ -23,7 +23,7 @@ fn sext(from: u32, to: u32, n: u64) -> Lane
     requires number { n < 2 ^ from }
     ensures { result ≡ sext_of from to n }
 {
-    Some(cut(to, signed_reading(from, n)))
+    Some(cut(to, signed_reading(from, n) as i128))
 }
 
 fn trunc(to: u32, n: u64) -> Lane

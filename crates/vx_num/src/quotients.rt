@@ -2,7 +2,7 @@
 // Private rows of the binary operations; nothing here fails. The rows are called only where the
 // division is defined, which `lacks_divisor` and `lacks_quotient` tell.
 
-ghost use Rattle.std.specs.Prelude.{◌≡◌, ◌≢◌, ◌^◌, ◌≤◌, ◌<◌, false};
+ghost use Rattle.std.specs.Prelude.{◌≡◌, ◌≢◌, ◌^◌, ◌≤◌, ◌<◌, pos, int_div, int_rem};
 ghost use Rattle.vx_num.specs.Width.{IsLane};
 ghost use Rattle.vx_num.specs.Quotients.{udiv_of, urem_of, sdiv_of, srem_of, no_divisor, is_minus_one, may_be_least, no_quotient};
 
@@ -25,26 +25,42 @@ pub fn urem(a: u64, b: u64) -> Lane
     Some(a % b)
 }
 
+/// The quotient, truncated toward zero.
+fn quotient(x: i64, y: i64) -> i128
+    requires { y ≢ pos 0 }
+    ensures { result ≡ int_div x y }
+{
+    x as i128 / y as i128
+}
+
+/// The remainder, with the sign of the dividend.
+fn remainder(x: i64, y: i64) -> i128
+    requires { y ≢ pos 0 }
+    ensures { result ≡ int_rem x y }
+{
+    x as i128 % y as i128
+}
+
 pub fn sdiv(f: Flags, w: u32, a: u64, b: u64) -> Lane
     requires width { w ≤ 64 }
     requires left { a < 2 ^ w }
     requires right { b < 2 ^ w }
-    requires defined { no_quotient w (Some a) (Some b) ≡ false }
+    requires divisor { b ≢ 0 }
     ensures { result ≡ sdiv_of f w a b }
 {
     let dividend = signed_reading(w, a);
     let divisor = signed_reading(w, b);
-    exact(f, dividend % divisor == 0, cut(w, dividend / divisor))
+    exact(f, remainder(dividend, divisor) == 0, cut(w, quotient(dividend, divisor)))
 }
 
 pub fn srem(w: u32, a: u64, b: u64) -> Lane
     requires width { w ≤ 64 }
     requires left { a < 2 ^ w }
     requires right { b < 2 ^ w }
-    requires defined { no_quotient w (Some a) (Some b) ≡ false }
+    requires divisor { b ≢ 0 }
     ensures { result ≡ srem_of w a b }
 {
-    Some(cut(w, signed_reading(w, a) % signed_reading(w, b)))
+    Some(cut(w, remainder(signed_reading(w, a), signed_reading(w, b))))
 }
 
 /// Whether the divisor is poison or 0.

@@ -2,7 +2,7 @@
 // Private helpers of the operations; each is total where its width is at most 64. A number is kept
 // unsigned; what may pass 64 bits is computed in 128.
 
-ghost use Rattle.std.specs.Prelude.{◌≡◌, ◌-◌, ◌^◌, ◌≤◌, ◌<◌};
+ghost use Rattle.std.specs.Prelude.{◌≡◌, ◌≢◌, ◌^◌, ◌≤◌, ◌<◌, pos};
 ghost use Rattle.vx_num.specs.Width.{sign_bit, signed, low_bits, fits_signed};
 
 /// 2^w.
@@ -26,13 +26,14 @@ pub fn top_bit(w: u32) -> u64
 pub fn signed_reading(w: u32, n: u64) -> i64
     requires width { w ≤ 64 }
     requires number { n < 2 ^ w }
-    ensures { result ≡ signed w n }
+    ensures value { result ≡ signed w n }
+    ensures nonzero { n ≢ 0 → result ≢ pos 0 }
 {
     if n < top_bit(w) { n as i64 } else { (n as i128 - power(w) as i128) as i64 }
 }
 
 /// The w bits of a signed number.
-pub fn cut(w: u32, z: i64) -> u64
+pub fn cut(w: u32, z: i128) -> u64
     requires { w ≤ 64 }
     ensures { result ≡ low_bits w z }
 {
