@@ -7,3 +7,4 @@ pub mod Bin
 pub mod Cmp
 pub mod Cast
 pub mod Advance
+pub mod Refines
