@@ -21,15 +21,10 @@ use Rattle.vx_num.specs.declared.operations.Pred.{Pred}
 use Rattle.vx_num.specs.Width.{sign_bit, signed, low_bits, IsLane}
 use Rattle.vx_num.specs.Shifts.{sign_fill}
 use Rattle.vx_num.specs.Quotients.{no_divisor}
-use Rattle.vx_num.specs.Bin.{number_of, lane_of, is_undefined, bin_of}
+use Rattle.vx_num.specs.Bin.{number_of, lane_of, is_undefined, bin_of, IsDone}
 use Rattle.vx_num.specs.Cmp.{holds, cmp_of}
 use Rattle.vx_num.specs.Cast.{cast_of}
 use Rattle.vx_num.specs.Advance.{advance_of}
-
--- undefined, or a lane of the width
-abbrev pub IsDone : ℕ → Done → Type 0
-IsDone w (Value v) = IsLane w v
-IsDone w Undefined = Unit {0}
 
 pub low_bits-lt : (w : ℕ) (z : ℤ) → low_bits w z < 2 ^ w
 low_bits-lt w (pos n) = mod_below n (2 ^ w) (pow_pos w)

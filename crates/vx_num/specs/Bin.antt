@@ -1,7 +1,7 @@
 -- What a binary operation gives at a width: undefined behaviour, else poison where an operand is
 -- poison, else the operation's row at the two numbers. A flag that is not an operation's own means
 -- nothing for it.
-use Rattle.std.specs.Prelude.{ℕ, ◌==◌, Bool, false, if◌then◌else◌, bit_and, bit_or, bit_xor}
+use Rattle.std.specs.Prelude.{◌≡◌, refl, ⊤, ℕ, ◌==◌, Bool, false, if◌then◌else◌, bit_and, bit_or, bit_xor}
 use Rattle.std.specs.declared.option.Option.{Option}
 use Rattle.std.specs.declared.option.Option.TheVariants.{None, Some}
 use Rattle.vx_num.specs.declared.lanes.Done.{Done}
@@ -9,7 +9,8 @@ use Rattle.vx_num.specs.declared.lanes.Done.TheVariants.{Value, Undefined}
 use Rattle.vx_num.specs.declared.operations.BinOp.{BinOp}
 use Rattle.vx_num.specs.declared.operations.BinOp.TheVariants.{Add, Sub, Mul, Shl, Udiv, Sdiv, Urem, Srem, Lshr, Ashr, And, Or, Xor}
 use Rattle.vx_num.specs.declared.operations.Flags.{Flags}
-use Rattle.vx_num.specs.Flagged.{apart}
+use Rattle.vx_num.specs.Flagged.{apart, plain, with_exact, with_disjoint}
+use Rattle.vx_num.specs.Width.{IsLane}
 use Rattle.vx_num.specs.Sums.{add_of, sub_of, mul_of}
 use Rattle.vx_num.specs.Shifts.{shl_of, lshr_of, ashr_of}
 use Rattle.vx_num.specs.Quotients.{udiv_of, urem_of, sdiv_of, srem_of, no_divisor, no_quotient}
@@ -20,6 +21,12 @@ and_of a b = Some (bit_and a b)
 
 abbrev pub or_of : Flags → ℕ → ℕ → Option ℕ
 or_of f a b = apart f (bit_and a b == 0) (bit_or a b)
+
+pub or_of-disjoint : or_of with_disjoint 6 1 ≡ Some 7
+or_of-disjoint = refl
+
+pub or_of-shared : or_of with_disjoint 6 3 ≡ None
+or_of-shared = refl
 
 abbrev pub xor_of : ℕ → ℕ → Option ℕ
 xor_of a b = Some (bit_xor a b)
@@ -56,3 +63,22 @@ is_undefined _ w a b = false
 
 abbrev pub bin_of : BinOp → Flags → ℕ → Option ℕ → Option ℕ → Done
 bin_of op f w a b = if is_undefined op w a b then Undefined else Value (lane_of op f w a b)
+
+-- a poison operand gives poison, but undefined behaviour as a divisor
+pub bin_of-poison : bin_of Add plain 8 None (Some 1) ≡ Value None
+bin_of-poison = refl
+
+pub bin_of-poison_dividend : bin_of Udiv plain 8 None (Some 1) ≡ Value None
+bin_of-poison_dividend = refl
+
+pub bin_of-poison_divisor : bin_of Udiv plain 8 (Some 1) None ≡ Undefined
+bin_of-poison_divisor = refl
+
+-- `exact` is no flag of a sum
+pub bin_of-other_flag : bin_of Add with_exact 8 (Some 255) (Some 2) ≡ Value (Some 1)
+bin_of-other_flag = refl
+
+-- undefined, or a lane of the width
+abbrev pub IsDone : ℕ → Done → Type 0
+IsDone w (Value v) = IsLane w v
+IsDone w Undefined = ⊤
