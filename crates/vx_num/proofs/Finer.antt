@@ -52,10 +52,10 @@ only_if-finer true new old finer = finer
 no_wrap-finer : (g f : Flags) (unsigned signed : Bool) (n : ℕ) → Fewer g f → LaneRefines (no_wrap g unsigned signed n) (no_wrap f unsigned signed n)
 no_wrap-finer g f unsigned signed n fewer =
     when-finer (keeps g.nuw unsigned && keeps g.nsw signed) (keeps f.nuw unsigned && keeps f.nsw signed) n
-        (λ kept. let parts = and_parts (keeps f.nuw unsigned) (keeps f.nsw signed) kept in
-            and_from (keeps g.nuw unsigned) (keeps g.nsw signed)
-                (keeps-finer g.nuw f.nuw unsigned fewer.nuw parts.0)
-                (keeps-finer g.nsw f.nsw signed fewer.nsw parts.1))
+    (λ kept. let parts = and_parts (keeps f.nuw unsigned) (keeps f.nsw signed) kept in
+    and_from (keeps g.nuw unsigned) (keeps g.nsw signed)
+    (keeps-finer g.nuw f.nuw unsigned fewer.nuw parts.0)
+    (keeps-finer g.nsw f.nsw signed fewer.nsw parts.1))
 
 exactly-finer : (g f : Flags) (fact : Bool) (n : ℕ) → Fewer g f → LaneRefines (exactly g fact n) (exactly f fact n)
 exactly-finer g f fact n fewer = when-finer (keeps g.exact fact) (keeps f.exact fact) n (keeps-finer g.exact f.exact fact fewer.exact)
@@ -81,13 +81,13 @@ number_of-finer Or g f w a b fewer = apart-finer g f _ _ fewer
 number_of-finer Xor g f w a b fewer = refl
 
 pub lane_of-finer : (op : BinOp) (g f : Flags) (w : ℕ) (x a y b : Option ℕ) → Fewer g f → LaneRefines x a → LaneRefines y b
-  → LaneRefines (lane_of op g w x y) (lane_of op f w a b)
+    → LaneRefines (lane_of op g w x y) (lane_of op f w a b)
 lane_of-finer op g f w x None y b fewer left right = tt
 lane_of-finer op g f w x (Some a) y None fewer left right = tt
 lane_of-finer op g f w x (Some a) y (Some b) fewer left right =
     subst (λ (v : Option ℕ). LaneRefines (lane_of op g w v y) (number_of op f w a b)) (sym left)
-        (subst (λ (v : Option ℕ). LaneRefines (lane_of op g w (Some a) v) (number_of op f w a b)) (sym right)
-            (number_of-finer op g f w a b fewer))
+    (subst (λ (v : Option ℕ). LaneRefines (lane_of op g w (Some a) v) (number_of op f w a b)) (sym right)
+    (number_of-finer op g f w a b fewer))
 
 no_divisor-finer : (y b : Option ℕ) → LaneRefines y b → no_divisor b ≡ false → no_divisor y ≡ false
 no_divisor-finer y None right defined = absurd (cc)
@@ -107,7 +107,7 @@ no_quotient-finer w x None y (Some b) left right defined =
     ∙ weaker_and (no_divisor (Some b)) (is_minus_one w (Some b)) (may_be_least w x) defined
 
 pub is_undefined-finer : (op : BinOp) (w : ℕ) (x a y b : Option ℕ) → LaneRefines x a → LaneRefines y b
-  → is_undefined op w a b ≡ false → is_undefined op w x y ≡ false
+    → is_undefined op w a b ≡ false → is_undefined op w x y ≡ false
 is_undefined-finer Udiv w x a y b left right defined = no_divisor-finer y b right defined
 is_undefined-finer Urem w x a y b left right defined = no_divisor-finer y b right defined
 is_undefined-finer Sdiv w x a y b left right defined = no_quotient-finer w x a y b left right defined
@@ -123,17 +123,17 @@ is_undefined-finer Or w x a y b left right defined = refl
 is_undefined-finer Xor w x a y b left right defined = refl
 
 ends-finer : (new old : Bool) (u v : Option ℕ) → (old ≡ false → new ≡ false) → LaneRefines u v
-  → DoneRefines (if new then Undefined else Value u) (if old then Undefined else Value v)
+    → DoneRefines (if new then Undefined else Value u) (if old then Undefined else Value v)
 ends-finer new true u v less finer = tt
 ends-finer new false u v less finer =
     subst (λ (b : Bool). DoneRefines (if b then Undefined else Value u) (Value v)) (sym (less refl)) finer
 
 pub bin_of-finer : (op : BinOp) (g f : Flags) (w : ℕ) (x a y b : Option ℕ) → Fewer g f → LaneRefines x a → LaneRefines y b
-  → DoneRefines (bin_of op g w x y) (bin_of op f w a b)
+    → DoneRefines (bin_of op g w x y) (bin_of op f w a b)
 bin_of-finer op g f w x a y b fewer left right =
     ends-finer (is_undefined op w x y) (is_undefined op w a b) (lane_of op g w x y) (lane_of op f w a b)
-        (is_undefined-finer op w x a y b left right)
-        (lane_of-finer op g f w x a y b fewer left right)
+    (is_undefined-finer op w x a y b left right)
+    (lane_of-finer op g f w x a y b fewer left right)
 
 -- to clear flags alone
 pub bin_of-fewer : (op : BinOp) (g f : Flags) (w : ℕ) (a b : Option ℕ) → Fewer g f → DoneRefines (bin_of op g w a b) (bin_of op f w a b)
@@ -148,10 +148,10 @@ cmp_of-finer p w x (Some a) y (Some b) left right =
     ap (λ (v : Option ℕ). cmp_of p w v y) left ∙ ap (λ (v : Option ℕ). cmp_of p w (Some a) v) right
 
 pub cast_of-finer : (op : CastOp) (g f : Bool) (from to : ℕ) (x a : Option ℕ) → (g ≡ true → f ≡ true) → LaneRefines x a
-  → LaneRefines (cast_of op g from to x) (cast_of op f from to a)
+    → LaneRefines (cast_of op g from to x) (cast_of op f from to a)
 cast_of-finer op g f from to x None fewer operand = tt
 cast_of-finer Zext g f from to x (Some a) fewer operand =
     subst (λ (v : Option ℕ). LaneRefines (cast_of Zext g from to v) (cast_of Zext f from to (Some a))) (sym operand)
-        (when-finer (keeps g _) (keeps f _) a (keeps-finer g f _ fewer))
+    (when-finer (keeps g _) (keeps f _) a (keeps-finer g f _ fewer))
 cast_of-finer Sext g f from to x (Some a) fewer operand = ap (cast_of Sext g from to) operand
 cast_of-finer Trunc g f from to x (Some a) fewer operand = ap (cast_of Trunc g from to) operand

@@ -111,7 +111,7 @@ cmp_of-lane p w (Some a) (Some b) = bit-lane (holds p w a b)
 
 -- a conversion gives a lane of its target; only `zext` needs that the target is no smaller
 pub cast_of-lane : (op : CastOp) (nneg : Bool) (from to : ℕ) (a : Option ℕ) → (op ≡ Zext → from ≤ to) → IsLane from a
-  → IsLane to (cast_of op nneg from to a)
+    → IsLane to (cast_of op nneg from to a)
 cast_of-lane op nneg from to None wider is = tt
 cast_of-lane Zext nneg from to (Some n) wider is =
     let powers : 2 ^ from ≤ 2 ^ to = pow_mono (wider refl) in when-lane to _ n (omega arith)

@@ -14,7 +14,11 @@ fn zext(nneg: bool, from: u32, n: u64) -> Lane
     requires { from ≤ 64 }
     ensures { result ≡ zext_of nneg from n }
 {
-    if kept(nneg, n < top_bit(from)) { Some(n) } else { None }
+    if kept(nneg, n < top_bit(from)) {
+        Some(n)
+    } else {
+        None
+    }
 }
 
 fn sext(from: u32, to: u32, n: u64) -> Lane

@@ -18,7 +18,11 @@ pub fn kept(flag: bool, fact: bool) -> bool
 pub fn unwrapped(f: Flags, unsigned: bool, signed: bool, n: u64) -> Lane
     ensures { result ≡ no_wrap f unsigned signed n }
 {
-    if kept(f.nuw, unsigned) && kept(f.nsw, signed) { Some(n) } else { None }
+    if kept(f.nuw, unsigned) && kept(f.nsw, signed) {
+        Some(n)
+    } else {
+        None
+    }
 }
 
 /// The number, or poison by `exact`.
@@ -32,5 +36,9 @@ pub fn exact(f: Flags, fact: bool, n: u64) -> Lane
 pub fn disjoint(f: Flags, fact: bool, n: u64) -> Lane
     ensures { result ≡ apart f fact n }
 {
-    if kept(f.disjoint, fact) { Some(n) } else { None }
+    if kept(f.disjoint, fact) {
+        Some(n)
+    } else {
+        None
+    }
 }

@@ -23,3 +23,6 @@ pub use compare::cmp;
 pub use convert::cast;
 pub use lanes::{Done, Lane};
 pub use operations::{BinOp, CastOp, Flags, Pred};
+
+#[cfg(test)]
+mod tests;

@@ -50,7 +50,11 @@ pub fn sdiv(f: Flags, w: u32, a: u64, b: u64) -> Lane
 {
     let dividend = signed_reading(w, a);
     let divisor = signed_reading(w, b);
-    exact(f, remainder(dividend, divisor) == 0, cut(w, quotient(dividend, divisor)))
+    exact(
+        f,
+        remainder(dividend, divisor) == 0,
+        cut(w, quotient(dividend, divisor)),
+    )
 }
 
 pub fn srem(w: u32, a: u64, b: u64) -> Lane

@@ -32,7 +32,11 @@ fn fill(w: u32, k: u32, a: u64) -> u128
     requires amount { k < w }
     ensures { result ≡ sign_fill w k a }
 {
-    if a < top_bit(w) { 0 } else { power(w) - power(w - k) }
+    if a < top_bit(w) {
+        0
+    } else {
+        power(w) - power(w - k)
+    }
 }
 
 fn shl_by(f: Flags, w: u32, a: u64, k: u32) -> Lane
@@ -52,14 +56,22 @@ pub fn shl(f: Flags, w: u32, a: u64, k: u64) -> Lane
     requires left { a < 2 ^ w }
     ensures { result ≡ shl_of f w a k }
 {
-    if k < w as u64 { shl_by(f, w, a, k as u32) } else { None }
+    if k < w as u64 {
+        shl_by(f, w, a, k as u32)
+    } else {
+        None
+    }
 }
 
 pub fn lshr(f: Flags, w: u32, a: u64, k: u64) -> Lane
     requires { w ≤ 64 }
     ensures { result ≡ lshr_of f w a k }
 {
-    if k < w as u64 { exact(f, a as u128 % power(k as u32) == 0, a >> k) } else { None }
+    if k < w as u64 {
+        exact(f, a as u128 % power(k as u32) == 0, a >> k)
+    } else {
+        None
+    }
 }
 
 fn ashr_by(f: Flags, w: u32, a: u64, k: u32) -> Lane
@@ -77,5 +89,9 @@ pub fn ashr(f: Flags, w: u32, a: u64, k: u64) -> Lane
     requires left { a < 2 ^ w }
     ensures { result ≡ ashr_of f w a k }
 {
-    if k < w as u64 { ashr_by(f, w, a, k as u32) } else { None }
+    if k < w as u64 {
+        ashr_by(f, w, a, k as u32)
+    } else {
+        None
+    }
 }

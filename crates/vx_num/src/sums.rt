@@ -71,5 +71,10 @@ pub fn mul(f: Flags, w: u32, a: u64, b: u64) -> Lane
 {
     let product = a as u128 * b as u128;
     let signed = signed_product(w, a, b);
-    unwrapped(f, product < power(w), fits(w, signed), (product % power(w)) as u64)
+    unwrapped(
+        f,
+        product < power(w),
+        fits(w, signed),
+        (product % power(w)) as u64,
+    )
 }

@@ -29,7 +29,11 @@ pub fn signed_reading(w: u32, n: u64) -> i64
     ensures value { result ≡ signed w n }
     ensures nonzero { n ≢ 0 → result ≢ pos 0 }
 {
-    if n < top_bit(w) { n as i64 } else { (n as i128 - power(w) as i128) as i64 }
+    if n < top_bit(w) {
+        n as i64
+    } else {
+        (n as i128 - power(w) as i128) as i64
+    }
 }
 
 /// The w bits of a signed number.

@@ -15,4 +15,4 @@ returns c =
     let stride : c.stride.result ≡ int_wrap w64 (c.signed_reading.result *ℤ pos c.args.scale) = simp to_z-of_z at c.stride.ensures in
     to_z-of_z w64 c.moved.result result
     ∙ advance_is c.moved.result c.args.base c.stride.result c.signed_reading.result c.args.index c.args.w c.args.scale
-        moved stride c.signed_reading.ensures.value
+    moved stride c.signed_reading.ensures.value
