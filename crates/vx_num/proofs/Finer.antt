@@ -1,9 +1,9 @@
 -- Finer operands and fewer flags give a finer result: where the old operation is defined, so is the
 -- new one, and it gives the same lane or the old one was poison.
-use Rattle.std.proofs.Common.{◌≡◌, ℕ, Bool, true, false, not, ◌||◌, ◌&&◌, refl, sym, ap, subst, ◌∙◌, if◌then◌else◌}
+use Rattle.std.proofs.Common.{◌≡◌, ℕ, Bool, true, false, ◌||◌, ◌&&◌, refl, sym, ap, subst, ◌∙◌, if◌then◌else◌}
 use Rattle.std.specs.declared.option.Option.{Option}
 use Rattle.std.specs.declared.option.Option.TheVariants.{None, Some}
-use Rattle.std.proofs.lemmas.Bool.{and_parts, and_from, or_parts}
+use Rattle.std.proofs.lemmas.Bool.{and_parts, and_from}
 use Rattle.vx_num.specs.declared.lanes.Done.{Done}
 use Rattle.vx_num.specs.declared.lanes.Done.TheVariants.{Value, Undefined}
 use Rattle.vx_num.specs.declared.operations.BinOp.{BinOp}

@@ -10,7 +10,6 @@ use Rattle.std.proofs.Math.Nat.{div-le_self, mod-le}
 use Rattle.std.proofs.Math.Pow.{pow_mono}
 use Rattle.std.proofs.lemmas.Nat.{pow_pos, shr_below, mod_below, and_le_l, or_lt, xor_lt}
 use Rattle.std.proofs.lemmas.Int.{SFits-int_wrap}
-use Rattle.vx_num.specs.declared.lanes.Done.{Done}
 use Rattle.vx_num.specs.declared.lanes.Done.TheVariants.{Value, Undefined}
 use Rattle.vx_num.specs.declared.operations.BinOp.{BinOp}
 use Rattle.vx_num.specs.declared.operations.BinOp.TheVariants.{Add, Sub, Mul, Shl, Udiv, Sdiv, Urem, Srem, Lshr, Ashr, And, Or, Xor}
@@ -18,9 +17,8 @@ use Rattle.vx_num.specs.declared.operations.CastOp.{CastOp}
 use Rattle.vx_num.specs.declared.operations.CastOp.TheVariants.{Zext, Sext, Trunc}
 use Rattle.vx_num.specs.declared.operations.Flags.{Flags}
 use Rattle.vx_num.specs.declared.operations.Pred.{Pred}
-use Rattle.vx_num.specs.Width.{sign_bit, signed, low_bits, IsLane}
+use Rattle.vx_num.specs.Width.{sign_bit, low_bits, IsLane}
 use Rattle.vx_num.specs.Shifts.{sign_fill}
-use Rattle.vx_num.specs.Quotients.{no_divisor}
 use Rattle.vx_num.specs.Bin.{number_of, lane_of, is_undefined, bin_of, IsDone}
 use Rattle.vx_num.specs.Cmp.{holds, cmp_of}
 use Rattle.vx_num.specs.Cast.{cast_of}

@@ -1,7 +1,7 @@
 -- Quotients and remainders of numbers below 2^w, and where a division is undefined.
 -- A signed quotient is truncated toward zero, a signed remainder has the sign of the dividend.
 -- With `exact` poison where the remainder is not 0.
-use Rattle.std.specs.Prelude.{◌≡◌, refl, ℕ, ℤ, pos, negsuc, ◌/◌, ◌%◌, ◌==◌, Bool, true, false, ◌&&◌, ◌||◌, int_div, int_rem}
+use Rattle.std.specs.Prelude.{◌≡◌, refl, ℕ, pos, negsuc, ◌/◌, ◌%◌, ◌==◌, Bool, true, false, ◌&&◌, ◌||◌, int_div, int_rem}
 use Rattle.std.specs.Ordering.{int_eq}
 use Rattle.std.specs.declared.option.Option.{Option}
 use Rattle.std.specs.declared.option.Option.TheVariants.{None, Some}

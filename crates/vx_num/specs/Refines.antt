@@ -1,6 +1,6 @@
 -- When one lane, or what one operation came to, may stand in place of another: the other is poison
 -- or undefined, or both are the same.
-use Rattle.std.specs.Prelude.{◌≡◌, ℕ, Bool, true, ⊤}
+use Rattle.std.specs.Prelude.{◌≡◌, ℕ, true, ⊤}
 use Rattle.std.specs.declared.option.Option.{Option}
 use Rattle.std.specs.declared.option.Option.TheVariants.{None, Some}
 use Rattle.vx_num.specs.declared.lanes.Done.{Done}

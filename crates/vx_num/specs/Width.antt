@@ -1,6 +1,6 @@
 -- Numbers of w bits: how they are read as signed ones, how a signed one is cut to w bits, and which
 -- lanes fit a width. All is total: a width is any number, and so is what is read.
-use Rattle.std.specs.Prelude.{◌≡◌, refl, ℕ, ℤ, pos, negsuc, neg_ℤ, ◌+◌, ◌-◌, ◌%◌, ◌^◌, ◌<◌, ◌-ℤ◌, Bool, true, false, ◌&&◌, nat_lt, int_lt, int_le, if◌then◌else◌, ⊤}
+use Rattle.std.specs.Prelude.{◌≡◌, refl, ℕ, ℤ, pos, negsuc, neg_ℤ, ◌-◌, ◌%◌, ◌^◌, ◌<◌, ◌-ℤ◌, Bool, true, false, ◌&&◌, nat_lt, int_lt, int_le, if◌then◌else◌, ⊤}
 use Rattle.std.specs.declared.option.Option.{Option}
 use Rattle.std.specs.declared.option.Option.TheVariants.{None, Some}
 

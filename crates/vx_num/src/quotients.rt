@@ -71,10 +71,7 @@ pub fn srem(w: u32, a: u64, b: u64) -> Lane
 pub fn lacks_divisor(b: Lane) -> bool
     ensures { result ≡ no_divisor b }
 {
-    match b {
-        Some(n) => n == 0,
-        None => true,
-    }
+    matches!(b, None | Some(0))
 }
 
 /// Whether the divisor is -1.

@@ -1,13 +1,20 @@
 // Shifts of a number of w bits, with `nuw` and `nsw` to the left and `exact` to the right.
 // Private rows of the binary operations; nothing here fails: an amount of w or more gives poison.
 
-ghost use Rattle.std.specs.Prelude.{◌≡◌, ◌*◌, ◌/◌, ◌^◌, ◌≤◌, ◌<◌};
+ghost use Rattle.std.specs.Prelude.{◌≡◌, ◌*◌, ◌/◌, ◌^◌, ◌≤◌, ◌<◌, MatchOption};
 ghost use Rattle.vx_num.specs.Shifts.{sign_copies, sign_fill, shl_of, lshr_of, ashr_of};
 
 use crate::flagged::{exact, unwrapped};
 use crate::lanes::Lane;
 use crate::operations::Flags;
 use crate::width::{power, top_bit};
+
+/// The amount, where it is below the width.
+fn amount_below(w: u32, k: u64) -> Option<u32>
+    ensures { MatchOption result (w ≤ k) (λ n. (n ≡ k) × (n < w)) }
+{
+    if k < w as u64 { Some(k as u32) } else { None }
+}
 
 /// The whole number that a shift to the left makes, no bit lost.
 fn shifted(a: u64, k: u32) -> u128
@@ -56,22 +63,16 @@ pub fn shl(f: Flags, w: u32, a: u64, k: u64) -> Lane
     requires left { a < 2 ^ w }
     ensures { result ≡ shl_of f w a k }
 {
-    if k < w as u64 {
-        shl_by(f, w, a, k as u32)
-    } else {
-        None
-    }
+    let amount = amount_below(w, k)?;
+    shl_by(f, w, a, amount)
 }
 
 pub fn lshr(f: Flags, w: u32, a: u64, k: u64) -> Lane
     requires { w ≤ 64 }
     ensures { result ≡ lshr_of f w a k }
 {
-    if k < w as u64 {
-        exact(f, a as u128 % power(k as u32) == 0, a >> k)
-    } else {
-        None
-    }
+    let amount = amount_below(w, k)?;
+    exact(f, a as u128 % power(amount) == 0, a >> amount)
 }
 
 fn ashr_by(f: Flags, w: u32, a: u64, k: u32) -> Lane
@@ -89,9 +90,6 @@ pub fn ashr(f: Flags, w: u32, a: u64, k: u64) -> Lane
     requires left { a < 2 ^ w }
     ensures { result ≡ ashr_of f w a k }
 {
-    if k < w as u64 {
-        ashr_by(f, w, a, k as u32)
-    } else {
-        None
-    }
+    let amount = amount_below(w, k)?;
+    ashr_by(f, w, a, amount)
 }

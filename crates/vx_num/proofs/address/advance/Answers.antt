@@ -1,5 +1,5 @@
 -- To wrap on the way changes nothing.
-use Rattle.std.proofs.Common.{◌≡◌, ℤ, pos, ◌+ℤ◌, ◌*ℤ◌, rules, w64, FitsSigned, ◌∙◌}
+use Rattle.std.proofs.Common.{◌≡◌, pos, ◌+ℤ◌, ◌*ℤ◌, rules, w64, FitsSigned, ◌∙◌}
 use Rattle.std.specs.Int.{int_wrap}
 use Rattle.std.proofs.lemmas.Int.{to_z-of_z}
 use Rattle.vx_num.proofs.Wrapping.{advance_is}

@@ -1,5 +1,5 @@
 -- What is shifted and what fills it are together below 2^w.
-use Rattle.std.proofs.Common.{◌≡◌, ◌+◌, ◌/◌, ◌^◌, ◌<◌, ◌≤◌, arith, ap, rules}
+use Rattle.std.proofs.Common.{◌≡◌, ◌+◌, ◌/◌, ◌^◌, ◌<◌, ◌≤◌, arith, ap}
 use Rattle.std.proofs.Math.Pow.{pow_mono}
 use Rattle.vx_num.proofs.Ranges.{shr_fill-lt}
 use Rattle.vx_num.specs.Shifts.{sign_fill}
