@@ -51,13 +51,23 @@ param_form st ty_word word = do
   new ← fresh_among st.known name
   Some (with_param st ty new)
 
--- parameters, each with the comma or the closing parenthesis behind it
+-- whether a word behind a parameter closes the list: a comma does not, a parenthesis does
+abbrev pub closes : List ℕ → Option Bool
+closes word = cond (bytes_eq word (codes ",")) (Some false) (cond (bytes_eq word (codes ")")) (Some true) None)
+
+-- one parameter with the word behind it: whether that closes the list, and the words behind it
+abbrev pub param_at : Open → Words → Option (Open × Bool × Words)
+param_at st (ty ∷ name ∷ word ∷ ws) = param_form st ty name >>= (λ after. closes word >>= (λ last. Some (after, last, ws)))
+param_at st _ = None
+
+-- parameters, at most as many as there are words of a first list
+abbrev pub params_within : Words → Open → Words → Option (Open × Words)
+params_within [] st ws = None
+params_within (_ ∷ bound) st ws = param_at st ws >>= (λ p. cond p.1 (Some (p.0, p.2)) (params_within bound p.0 p.2))
+
+-- parameters up to the closing parenthesis
 abbrev pub params_form : Open → Words → Option (Open × Words)
-params_form st (ty ∷ name ∷ sep ∷ ws) =
-    param_form st ty name >>= (λ after.
-    cond (bytes_eq sep (codes ",")) (params_form after ws)
-    (cond (bytes_eq sep (codes ")")) (Some (after, ws)) None))
-params_form st _ = None
+params_form st ws = params_within ws st ws
 
 -- what stands between the parentheses
 abbrev pub list_form : Open → Words → Option (Open × Words)

@@ -74,6 +74,19 @@ fn param_ty(word: &[u8]) -> Result<Ty, LineRefusal>
     }
 }
 
+/// Whether a word behind a parameter closes the list.
+fn closes(word: &[u8]) -> Result<bool, LineRefusal>
+    ensures { Gives (λ last. last) result (reads.closes word.now) }
+{
+    if is(word, b",") {
+        Ok(false)
+    } else if is(word, b")") {
+        Ok(true)
+    } else {
+        Err(LineRefusal::NotALine)
+    }
+}
+
 impl Open {
     fn new(alloc: Global, name: &[u8]) -> Result<Open, LineRefusal>
         ensures { Gives (λ fresh. fresh) result (Some (reads.opened name.now)) }
@@ -124,7 +137,26 @@ impl Open {
         Ok(())
     }
 
-    /// Parameters, each with the comma or the closing parenthesis behind it; the place behind the parenthesis.
+    /// One parameter with the word behind it: whether that closes the list, and the place behind it.
+    fn param_at<'a>(
+        &mut self,
+        alloc: Global,
+        line: &'a [u8],
+        place: &'a [Token],
+    ) -> Result<(bool, &'a [Token]), LineRefusal>
+        ensures { Gives (λ x. (self.new, x.0, words line.now x.1.now)) result (reads.param_at self.old (words line.now place.now)) }
+    {
+        match place {
+            [ty, name, separator, rest @ ..] => {
+                self.param_form(alloc, text(line, *ty), text(line, *name))?;
+                let last = closes(text(line, *separator))?;
+                Ok((last, rest))
+            }
+            _ => Err(LineRefusal::NotALine),
+        }
+    }
+
+    /// Parameters up to the closing parenthesis, and the place behind it.
     fn params_form<'a>(
         &mut self,
         alloc: Global,
@@ -134,15 +166,14 @@ impl Open {
         ensures { Gives (λ rest. (self.new, words line.now rest.now)) result (reads.params_form self.old (words line.now place.now)) }
     {
         let mut rest = place;
-        while let [ty, name, separator, more @ ..] = rest {
-            self.param_form(alloc, text(line, *ty), text(line, *name))?;
-            if is(text(line, *separator), b",") {
-                rest = more;
-            } else if is(text(line, *separator), b")") {
-                return Ok(more);
-            } else {
-                return Err(LineRefusal::NotALine);
+        let mut bound = place;
+        while let [_, fewer @ ..] = bound {
+            bound = fewer;
+            let (last, behind) = self.param_at(alloc, line, rest)?;
+            if last {
+                return Ok(behind);
             }
+            rest = behind;
         }
         Err(LineRefusal::NotALine)
     }
