@@ -1,2 +1,3 @@
 pub mod Known
+pub mod Splitting
 pub mod Words

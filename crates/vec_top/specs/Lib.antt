@@ -4,3 +4,4 @@ pub mod Forms
 pub mod Function
 pub mod Gives
 pub mod Reads
+pub mod Replies

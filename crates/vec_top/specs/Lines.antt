@@ -1,5 +1,5 @@
 -- The lines of a text, and the words of a line.
-use Rattle.std.specs.Prelude.{◌≡◌, refl, ℕ, ◌==◌, Bool, true, false, ◌&&◌, Option, None, Some, List, [], ◌∷◌, codes, cond}
+use Rattle.std.specs.Prelude.{◌≡◌, refl, ℕ, suc, ◌==◌, Bool, true, false, ◌&&◌, Option, None, Some, List, [], ◌∷◌, codes, cond}
 use Rattle.std.specs.List.{list_any}
 use Rattle.ir_lex.specs.Bytes.{semicolon}
 use Rattle.ir_lex.specs.Scan.{fault_of, texts}
@@ -22,6 +22,17 @@ lines_of (b ∷ bs) =
     cond (b == 10) ([] ∷ lines_of bs)
     (cond (b == 13 && begins_feed bs) (lines_of bs)
     (onto b (lines_of bs)))
+
+-- how many bytes stand before the first line feed
+abbrev pub line_len : List ℕ → ℕ
+line_len [] = 0
+line_len (b ∷ bs) = cond (b == 10) 0 (suc (line_len bs))
+
+-- a piece without the carriage return at its end
+abbrev pub without_return : List ℕ → List ℕ
+without_return [] = []
+without_return (b ∷ []) = cond (b == 13) [] (b ∷ [])
+without_return (b ∷ c ∷ cs) = b ∷ without_return (c ∷ cs)
 
 -- whether a line has a comment, or a string with a semicolon, of which the first forms have neither
 abbrev pub has_semicolon : List ℕ → Bool

@@ -59,8 +59,12 @@ abbrev pub step_before : Words → Option Stage
 step_before [] = Some Before
 step_before (w ∷ ws) = header_form (w ∷ ws) >>= (λ st. Some (Inside st))
 
+-- a closing brace, behind the return
+abbrev pub closed : Open → Option Stage
+closed st = cond st.returned (Some (After st)) None
+
 abbrev pub step_inside : Open → Words → Option Stage
-step_inside st ws = cond (is_close ws) (cond st.returned (Some (After st)) None) (statement st ws >>= (λ after. Some (Inside after)))
+step_inside st ws = cond (is_close ws) (closed st) (statement st ws >>= (λ after. Some (Inside after)))
 
 abbrev pub step_after : Open → Words → Option Stage
 step_after st [] = Some (After st)

@@ -10,4 +10,5 @@ mod reader;
 mod refusal;
 mod scope;
 
+pub(crate) use reader::{TextRefusal, module_of};
 pub(crate) use refusal::LineRefusal;
