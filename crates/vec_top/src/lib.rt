@@ -7,3 +7,4 @@
 mod fault;
 mod first_forms;
 mod lines;
+mod top;
