@@ -1,3 +1,4 @@
+pub mod Agree
 pub mod Known
 pub mod Splitting
 pub mod Words

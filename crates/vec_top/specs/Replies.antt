@@ -75,6 +75,12 @@ pub record Streams : Type 0 where
 abbrev pub Tells : Option (List ℕ) → Option (List ℕ) → ℕ → ℕ → List ℕ → Type 0
 Tells old new before now text = Appends old new text ⊎ (AppendsFront old new text × Rose before now)
 
+-- the fault that is told of a fault: that one, or want of memory where its line names a place and has to be made
+abbrev pub IsTold : Fault → Fault → Type 0
+IsTold (Line n) told_one = (told_one ≡ Line n) ⊎ (told_one ≡ NoMemory)
+IsTold (Word k) told_one = (told_one ≡ Word k) ⊎ (told_one ≡ NoMemory)
+IsTold f told_one = told_one ≡ f
+
 -- `err` took the line of a fault, and `out` took nothing
 pub record OnlyTells (s : Streams) (f : Fault) : Type 0 where
   pub err : Tells s.err s.err_after s.err_faults s.err_faults_after (told f)

@@ -3,9 +3,10 @@
 //! `sandvec_alone` is the entry point. Each step answers a `Fault` where it ends the command; texts are made before the first byte
 //! is written.
 
-ghost use Rattle.std.specs.Prelude.{◌≡◌, ◌+◌, ◌^◌, ◌<◌, codes, length, map, string_bytes};
+ghost use Rattle.std.specs.Prelude.{◌≡◌, ◌+◌, ◌^◌, ◌<◌, ◌⊎◌, Option, codes, length, map, string_bytes};
 ghost use Rattle.std.specs.Str.{bytes_eq};
 ghost use Rattle.vec_top.specs.Replies as replies;
+ghost use Rattle.vec_top.specs.declared.fault.Fault.{Fault};
 
 use crate::fault::{Fault, line_of};
 use crate::first_forms::{TextRefusal, module_of};
@@ -74,5 +75,112 @@ fn make<S: Source>(alloc: Global, words: &[String], input: &mut S) -> Result<Vec
         Err(ReadRefusal::ReadFault) => Err(Fault::ReadFault),
         Err(ReadRefusal::TooLong) => Err(Fault::TooLong),
         Err(ReadRefusal::OutOfMemory) => Err(Fault::NoMemory),
+    }
+}
+
+/// Writes the line that tells a fault of a place; where there is no memory for it, want of memory is told in its place.
+fn tell_place<E: Sink>(alloc: Global, fault: Fault, err: &mut E) -> Fault
+    ensures told { replies.Tells (E.taken err.old) (E.taken err.new) (E.faults err.old) (E.faults err.new) (replies.told result) }
+    ensures which { (result ≡ fault) ⊎ (result ≡ Fault.NoMemory) }
+{
+    match line_of(alloc, fault) {
+        Ok(line) => {
+            let _ = write_all(err, line.as_slice());
+            fault
+        }
+        Err(_) => {
+            let _ = write_all(err, b"sandvec: no memory\n");
+            Fault::NoMemory
+        }
+    }
+}
+
+/// Writes the line that tells a fault, and answers the fault that was told.
+fn tell<E: Sink>(alloc: Global, fault: Fault, err: &mut E) -> Fault
+    ensures told { replies.Tells (E.taken err.old) (E.taken err.new) (E.faults err.old) (E.faults err.new) (replies.told result) }
+    ensures which { replies.IsTold fault result }
+{
+    match fault {
+        Fault::Line(_) => return tell_place(alloc, fault, err),
+        Fault::Word(_) => return tell_place(alloc, fault, err),
+        Fault::ReadFault => tell_fixed(b"sandvec: read fault\n", err),
+        Fault::WriteFault => tell_fixed(b"sandvec: write fault\n", err),
+        Fault::TooLong => tell_fixed(b"sandvec: limit: bytes\n", err),
+        Fault::NoMemory => tell_fixed(b"sandvec: no memory\n", err),
+    }
+    fault
+}
+
+/// Writes a line that needs no memory.
+fn tell_fixed<E: Sink>(line: &[u8], err: &mut E)
+    ensures { replies.Tells (E.taken err.old) (E.taken err.new) (E.faults err.old) (E.faults err.new) line.now }
+{
+    let _ = write_all(err, line);
+}
+
+/// Does all the work, and answers the fault that ended it, if one did.
+fn reply<S: Source, O: Sink, E: Sink>(
+    alloc: Global,
+    words: &[String],
+    input: &mut S,
+    out: &mut O,
+    err: &mut E,
+) -> Option<Fault>
+    ensures { replies.Replies (map string_bytes words.now) (record {
+      left = S.left input.old;
+      left_after = S.left input.new;
+      read_faults = S.faults input.old;
+      read_faults_after = S.faults input.new;
+      out = O.taken out.old;
+      out_after = O.taken out.new;
+      out_faults = O.faults out.old;
+      out_faults_after = O.faults out.new;
+      room = O.room out.old;
+      err = E.taken err.old;
+      err_after = E.taken err.new;
+      err_faults = E.faults err.old;
+      err_faults_after = E.faults err.new;
+    }) result }
+{
+    match make(alloc, words, input) {
+        Err(fault) => Some(tell(alloc, fault, err)),
+        Ok(text) => match write_all(out, text.as_slice()) {
+            Ok(()) => None,
+            Err(WriteFault) => Some(tell(alloc, Fault::WriteFault, err)),
+        },
+    }
+}
+
+/// The program: words, standard input, standard output, standard error, and the exit status.
+///
+/// The one command is `print`. Status 0: the input is a module of the first forms, and `out` took its text. 1: it is none. 2: the
+/// words are not the one word `print`. 3: a read failed. 4: a write failed. 5: the input has more than 16,777,216 bytes. 6: want of
+/// memory. It always returns.
+pub fn sandvec_alone<S: Source, O: Sink, E: Sink>(
+    alloc: Global,
+    words: &[String],
+    input: &mut S,
+    out: &mut O,
+    err: &mut E,
+) -> u8
+    ensures { (reply : Option Fault) × (result ≡ replies.exit_status reply) × replies.Replies (map string_bytes words.now) (record {
+      left = S.left input.old;
+      left_after = S.left input.new;
+      read_faults = S.faults input.old;
+      read_faults_after = S.faults input.new;
+      out = O.taken out.old;
+      out_after = O.taken out.new;
+      out_faults = O.faults out.old;
+      out_faults_after = O.faults out.new;
+      room = O.room out.old;
+      err = E.taken err.old;
+      err_after = E.taken err.new;
+      err_faults = E.faults err.old;
+      err_faults_after = E.faults err.new;
+    }) reply }
+{
+    match reply(alloc, words, input, out, err) {
+        None => 0,
+        Some(fault) => fault.status(),
     }
 }
