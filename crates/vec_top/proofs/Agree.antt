@@ -5,7 +5,7 @@ use Rattle.vec_top.specs.declared.first_forms.reader.Stage.{Stage}
 use Rattle.vec_top.specs.declared.first_forms.reader.Stage.TheVariants.{Before, Inside, After}
 use Rattle.vec_top.specs.Lines.{lines_of, words_of}
 use Rattle.vec_top.specs.Forms.{Words, ◌>>=◌}
-use Rattle.vec_top.specs.Function.{Open, header_form, statement, is_close, empty_module, module_with}
+use Rattle.vec_top.specs.Function.{Open, header_form, head_at, statement, is_close, empty_module, module_with}
 use Rattle.vec_top.specs.Reads.{IsBlank, AreBlank, AreStatements, IsFunction, Reads, Nothing, Function, step, step_on, step_before, step_inside, step_after, closed, ended, goes_on, run, module_of}
 
 -- the walk behind the function meets blank lines alone
@@ -149,3 +149,58 @@ reads_from bytes m (Opens f) = Function f
 -- what the walk gives is read so
 pub module_reads : (bytes : List ℕ) (m : Module) → module_of bytes ≡ Ok m → Reads bytes m
 module_reads bytes m e = reads_from bytes m (before_sound 1 (lines_of bytes) m e)
+
+-- and what is read so is given
+
+after_run : (n : ℕ) (st : Open) (ls : List (List ℕ)) → AreBlank ls → run n (After st) ls ≡ Ok (module_with st)
+after_run n st [] blank = refl
+after_run n st (l ∷ ls) blank = ap (λ o. goes_on n (o >>= step_on (After st)) (λ after. run (n + 1) after ls)) blank.0 ∙ after_run (n + 1) st ls blank.1
+
+brace_run : (n : ℕ) (st : Open) (l : List ℕ) (ls : List (List ℕ)) (ws : Words) → words_of l ≡ Some ws → is_close ws ≡ true → st.returned ≡ true → AreBlank ls → run n (Inside st) (l ∷ ls) ≡ Ok (module_with st)
+brace_run n st l ls ws said closes returned blank =
+    ap (λ o. goes_on n (o >>= step_on (Inside st)) (λ after. run (n + 1) after ls)) said
+    ∙ ap (λ b. goes_on n (cond b (closed st) (statement st ws >>= (λ after. Some (Inside after)))) (λ after. run (n + 1) after ls)) closes
+    ∙ ap (λ r. goes_on n (cond r (Some (After st)) None) (λ after. run (n + 1) after ls)) returned
+    ∙ after_run (n + 1) st ls blank
+
+inside_run : (n : ℕ) (st last : Open) (statements : List (List ℕ)) (l : List ℕ) (ls : List (List ℕ)) (ws : Words) → AreStatements st statements last → words_of l ≡ Some ws → is_close ws ≡ true → last.returned ≡ true → AreBlank ls → run n (Inside st) (statements ++ (l ∷ ls)) ≡ Ok (module_with last)
+inside_run n st last [] l ls ws body said closes returned blank =
+    brace_run n st l ls ws said closes (ap (λ (o : Open). o.returned) body ∙ returned) blank ∙ ap (λ o. Ok (module_with o)) body
+inside_run n st last (s ∷ ss) l ls ws (vs, one, says, other, gives, rest) said closes returned blank =
+    ap (λ o. goes_on n (o >>= step_on (Inside st)) (λ after. run (n + 1) after (ss ++ (l ∷ ls)))) says
+    ∙ ap (λ b. goes_on n (cond b (closed st) (statement st vs >>= (λ after. Some (Inside after)))) (λ after. run (n + 1) after (ss ++ (l ∷ ls)))) other
+    ∙ ap (λ o. goes_on n (o >>= (λ after. Some (Inside after))) (λ after. run (n + 1) after (ss ++ (l ∷ ls)))) gives
+    ∙ inside_run (n + 1) one last ss l ls ws rest said closes returned blank
+
+header_run : (n : ℕ) (l : List ℕ) (ls : List (List ℕ)) (ws : Words) (first : Open) → words_of l ≡ Some ws → header_form ws ≡ Some first → run n Before (l ∷ ls) ≡ run (n + 1) (Inside first) ls
+unfolding header_form head_at
+header_run n l ls [] first said opens = let e : None ≡ Some first = opens in cc
+header_run n l ls (w ∷ ws) first said opens =
+    ap (λ o. goes_on n (o >>= step_on Before) (λ after. run (n + 1) after ls)) said
+    ∙ ap (λ o. goes_on n (o >>= (λ st. Some (Inside st))) (λ after. run (n + 1) after ls)) opens
+
+blank_run : (n : ℕ) (before ls : List (List ℕ)) → AreBlank before → (k : ℕ) × (run n Before (before ++ ls) ≡ run k Before ls)
+blank_run n [] ls blank = (n, refl)
+blank_run n (l ∷ before) ls blank =
+    let rest = blank_run (n + 1) before ls blank.1 in
+    (rest.0, ap (λ o. goes_on n (o >>= step_on Before) (λ after. run (n + 1) after (before ++ ls))) blank.0 ∙ rest.1)
+
+empty_run : (n : ℕ) (ls : List (List ℕ)) → AreBlank ls → run n Before ls ≡ Ok empty_module
+empty_run n [] blank = refl
+empty_run n (l ∷ ls) blank = ap (λ o. goes_on n (o >>= step_on Before) (λ after. run (n + 1) after ls)) blank.0 ∙ empty_run (n + 1) ls blank.1
+
+function_run : (ls : List (List ℕ)) (m : Module) → IsFunction ls m → run 1 Before ls ≡ Ok m
+function_run ls m f =
+    let behind = blank_run 1 f.before (f.header ∷ (f.statements ++ (f.closing ∷ f.after))) f.blank_before in
+    ap (run 1 Before) f.whole ∙ behind.1
+    ∙ header_run behind.0 f.header (f.statements ++ (f.closing ∷ f.after)) f.header_words f.first f.said f.opens
+    ∙ inside_run (behind.0 + 1) f.first f.last f.statements f.closing f.after f.closing_words f.body f.said_last f.closes f.returned f.blank_after
+    ∙ ap Ok (sym f.gives)
+
+pub reads_module : (bytes : List ℕ) (m : Module) → Reads bytes m → module_of bytes ≡ Ok m
+reads_module bytes m (Nothing all none) = empty_run 1 (lines_of bytes) all ∙ ap Ok (sym none)
+reads_module bytes m (Function f) = function_run (lines_of bytes) m f
+
+-- a text with a line that cannot stand is no module
+pub refused_reads : (bytes : List ℕ) (n : ℕ) → module_of bytes ≡ Err n → (m : Module) → Reads bytes m → ⊥
+refused_reads bytes n e m reads = let h : module_of bytes ≡ Ok m = reads_module bytes m reads in let k : Err n ≡ Ok m = sym e ∙ h in cc

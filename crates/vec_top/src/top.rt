@@ -101,14 +101,25 @@ fn tell<E: Sink>(alloc: Global, fault: Fault, err: &mut E) -> Fault
     ensures which { replies.IsTold fault result }
 {
     match fault {
-        Fault::Line(_) => return tell_place(alloc, fault, err),
-        Fault::Word(_) => return tell_place(alloc, fault, err),
-        Fault::ReadFault => tell_fixed(b"sandvec: read fault\n", err),
-        Fault::WriteFault => tell_fixed(b"sandvec: write fault\n", err),
-        Fault::TooLong => tell_fixed(b"sandvec: limit: bytes\n", err),
-        Fault::NoMemory => tell_fixed(b"sandvec: no memory\n", err),
+        Fault::Line(_) => tell_place(alloc, fault, err),
+        Fault::Word(_) => tell_place(alloc, fault, err),
+        Fault::ReadFault => {
+            tell_fixed(b"sandvec: read fault\n", err);
+            Fault::ReadFault
+        }
+        Fault::WriteFault => {
+            tell_fixed(b"sandvec: write fault\n", err);
+            Fault::WriteFault
+        }
+        Fault::TooLong => {
+            tell_fixed(b"sandvec: limit: bytes\n", err);
+            Fault::TooLong
+        }
+        Fault::NoMemory => {
+            tell_fixed(b"sandvec: no memory\n", err);
+            Fault::NoMemory
+        }
     }
-    fault
 }
 
 /// Writes a line that needs no memory.
