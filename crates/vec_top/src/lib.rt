@@ -8,3 +8,5 @@ mod fault;
 mod first_forms;
 mod lines;
 mod top;
+
+pub use top::sandvec_alone;
