@@ -10,3 +10,6 @@ mod lines;
 mod top;
 
 pub use top::sandvec_alone;
+
+#[cfg(test)]
+mod tests;
