@@ -1,0 +1,4 @@
+pub mod Ranges
+pub mod Wrapping
+pub mod Finer
+pub mod Readings

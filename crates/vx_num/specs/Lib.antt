@@ -1,0 +1,10 @@
+pub mod Width
+pub mod Flagged
+pub mod Sums
+pub mod Shifts
+pub mod Quotients
+pub mod Bin
+pub mod Cmp
+pub mod Cast
+pub mod Advance
+pub mod Refines
