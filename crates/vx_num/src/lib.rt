@@ -13,6 +13,10 @@ mod flagged;
 mod lanes;
 mod operations;
 mod plain;
+mod quotients;
+mod shifts;
+mod sums;
+mod width;
 
 pub use address::advance;
 pub use binary::bin;
