@@ -1,6 +1,7 @@
 -- Values, the environment in which operands are looked up, and when one value may stand for another.
-use Rattle.std.specs.Prelude.{◌≡◌, refl, ℕ, ℤ, pos, Bool, ◌&&◌, Option, None, Some, List, [], ◌∷◌, cond, nat_eq, ⊤}
+use Rattle.std.specs.Prelude.{◌≡◌, refl, ℕ, ℤ, pos, ◌+ℤ◌, Bool, ◌&&◌, Option, None, Some, List, [], ◌∷◌, cond, nat_eq, ⊤}
 use Rattle.std.specs.List.{AllZip}
+use Rattle.std.specs.Int.{w64, int_wrap}
 use Rattle.ir_types.specs.declared.id.Id.{Id}
 use Rattle.ir_types.specs.declared.ty.Ty.{Ty}
 use Rattle.ir_types.specs.declared.ty.Ty.TheVariants.{Void, Int, Ptr, Row}
@@ -37,6 +38,11 @@ poison_lane = (tt, (refl, tt))
 abbrev pub pointer_of : Value → Pointer
 pointer_of (PtrValue p) = p
 pointer_of _ = None
+
+-- a pointer so many bytes further, modulo 2^64 as a signed offset
+abbrev pub moved : Pointer → ℤ → Pointer
+moved None by = None
+moved (Some p) by = Some (p.0, int_wrap w64 (p.1 +ℤ by))
 
 -- the environment: the value of each id
 abbrev pub Env : Type 0
