@@ -1,0 +1,3 @@
+-- What the optimizer writes.
+pub mod Pair
+pub mod PairExamples
