@@ -1,0 +1,5 @@
+-- Why the laws of packing hold.
+pub mod Rows
+pub mod Known
+pub mod Statements
+pub mod Mates
