@@ -3,3 +3,6 @@ pub mod Rows
 pub mod Known
 pub mod Statements
 pub mod Mates
+pub mod Straight
+pub mod Runs
+pub mod Modules

@@ -33,7 +33,7 @@ pub both_true : (a b : Bool) → a && b ≡ true → (a ≡ true) × (b ≡ true
 both_true true b e = (refl, e)
 both_true false b e = absurd cc
 
-true_of : false ≡ true → ⊥
+pub true_of : false ≡ true → ⊥
 true_of e = cc
 
 -- ---- what any statement does
