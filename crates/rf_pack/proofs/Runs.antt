@@ -16,7 +16,7 @@ use Rattle.vx_serial.specs.Pair.{is_statement_of, is_straight, is_memory, Lead, 
 use Rattle.rf_pack.proofs.Known.{LeadHolds, Known}
 use Rattle.rf_pack.proofs.Statements.{effect_in, both_true, true_of, Plain, IsLed, led-is, quiet}
 use Rattle.rf_pack.proofs.Mates.{lower_first, lower_second}
-use Rattle.rf_pack.proofs.Straight.{StraightFrom, Last, More, straight_from, plain_of, IsReturn, return-is, run_statement, HasNoPhi}
+use Rattle.rf_pack.proofs.Straight.{StraightFrom, Last, More, straight_from, plain_of, IsReturn, return-is, run_statement, HasNoPhi, straight_no_phi}
 
 -- the old end is in undefined behaviour, or both are the same
 abbrev pub EndsBetter : Ended → Ended → Type 0
@@ -208,3 +208,134 @@ paired_with_better t start (j ∷ js) leads a new env m m1 h e k first =
     EndsBetter (run_insts t new (at env m)) (run_insts t (j ∷ js) (at env m1))
   by_first (Last r nil) more = with_return (return-is j.op j.opds r).no_memory nil
   by_first (More p r) more = by_kind p (is_memory j.op) refl e (more r)
+
+-- straight code with its first pair joined
+pub paired_better : (t : Id → Ty) (start : Env) (is : List Inst) (leads : Leads) (new : List Inst) (env : Env) (m : Memory) →
+  is_straight is ≡ true → paired leads is ≡ Some new → Known start leads env →
+  EndsBetter (run_insts t new (at env m)) (run_insts t is (at env m))
+paired_better t start [] leads new env m h e k = absurd (true_of h)
+paired_better t start (i ∷ is) leads new env m h e k =
+    by_store (led_store_of leads i) refl e
+      (λ r rest env m e k. paired_better t start is (leads_after leads i) rest env m r e k)
+  where
+  none : None ≡ Some new → ⊥
+  none e = cc
+  -- the first instruction stays
+  some_rest : (rest : List Inst) → Some (i ∷ rest) ≡ Some new → i ∷ rest ≡ new
+  some_rest rest e = cc
+  by_step : (rest : List Inst) → Plain i.op i.ty i.opds →
+    ((env : Env) (m : Memory) → Known start (leads_after leads i) env → EndsBetter (run_insts t rest (at env m)) (run_insts t is (at env m))) →
+    (o : Option State) → step_of t i (at env m) ≡ o →
+    EndsBetter (run_insts t (i ∷ rest) (at env m)) (run_insts t (i ∷ is) (at env m))
+  by_step rest p more None is_step =
+      inl (run_statement t i is (at env m) p.goes_on ∙ ap (λ o. then_ends o (run_insts t is)) is_step)
+  by_step rest p more (Some s) is_step =
+      ⊎_elim (λ stops. inl (old ∙ stops)) (λ same. inr (new_run ∙ same ∙ sym old)) (more s.env s.memory (p.known t start leads i.id env m s k is_step))
+    where
+    old : run_insts t (i ∷ is) (at env m) ≡ run_insts t is s
+    old = run_statement t i is (at env m) p.goes_on ∙ ap (λ o. then_ends o (run_insts t is)) is_step
+    new_run : run_insts t (i ∷ rest) (at env m) ≡ run_insts t rest s
+    new_run = run_statement t i rest (at env m) p.goes_on ∙ ap (λ o. then_ends o (run_insts t rest)) is_step
+  with_rest : (o : Option (List Inst)) → paired (leads_after leads i) is ≡ o → option_map (λ rest. i ∷ rest) o ≡ Some new →
+    (is_straight is ≡ true → (rest : List Inst) (env : Env) (m : Memory) → paired (leads_after leads i) is ≡ Some rest → Known start (leads_after leads i) env →
+      EndsBetter (run_insts t rest (at env m)) (run_insts t is (at env m))) →
+    EndsBetter (run_insts t new (at env m)) (run_insts t (i ∷ is) (at env m))
+  with_rest None found e more = absurd (none e)
+  with_rest (Some rest) found e more = by_first (straight_from i is h)
+    where
+    by_first : StraightFrom i is → EndsBetter (run_insts t new (at env m)) (run_insts t (i ∷ is) (at env m))
+    by_first (Last r nil) = absurd (nothing (sym (ap (paired (leads_after leads i)) nil) ∙ found))
+      where
+      nothing : None ≡ Some rest → ⊥
+      nothing e = cc
+    by_first (More p r) =
+        subst (λ n. EndsBetter (run_insts t n (at env m)) (run_insts t (i ∷ is) (at env m))) (some_rest rest e)
+          (by_step rest (plain_of i p) (λ env m k. more r rest env m found k) (step_of t i (at env m)) refl)
+  -- the first instruction is the first store of the pair
+  with_store : (a : LedStore) → led_store_of leads i ≡ Some a → paired_with leads a is ≡ Some new →
+    EndsBetter (run_insts t new (at env m)) (run_insts t (i ∷ is) (at env m))
+  with_store a led found = by_first (straight_from i is h)
+    where
+    by_first : StraightFrom i is → EndsBetter (run_insts t new (at env m)) (run_insts t (i ∷ is) (at env m))
+    by_first (Last r nil) = absurd (none (sym (ap (paired_with leads a) nil) ∙ found))
+    by_first (More p r) = by_memory (stored a.align (lane_bytes 4 a.lane) (moved (pointer_of (start a.base)) a.constant) m) refl old
+      where
+      l : IsLed leads i.op i.ty i.opds a
+      l = led-is leads i.op i.ty i.opds a p led
+      old : run_insts t (i ∷ is) (at env m)
+        ≡ then_ends (after_effect env i.id (memory_effect (stored a.align (lane_bytes 4 a.lane) (moved (pointer_of (start a.base)) a.constant) m))) (run_insts t is)
+      old =
+          run_store t i is env m (stored a.align (lane_bytes 4 a.lane) (moved (pointer_of (start a.base)) a.constant) m) (plain_of i p).goes_on
+            (l.effect t env m ∙ ap (λ q. memory_effect (stored a.align (lane_bytes 4 a.lane) q m)) (led_place start leads env a.pointer a.base a.constant k l.lead))
+      by_memory : (x : Option Memory) → stored a.align (lane_bytes 4 a.lane) (moved (pointer_of (start a.base)) a.constant) m ≡ x →
+        run_insts t (i ∷ is) (at env m) ≡ then_ends (after_effect env i.id (memory_effect x)) (run_insts t is) →
+        EndsBetter (run_insts t new (at env m)) (run_insts t (i ∷ is) (at env m))
+      by_memory None first old = inl old
+      by_memory (Some m1) first old =
+          ⊎_elim (λ stops. inl (old ∙ stops)) (λ same. inr (same ∙ sym old))
+            (paired_with_better t start is leads a new env m m1 r found k first)
+  or_rest : (a : LedStore) → led_store_of leads i ≡ Some a → (o : Option (List Inst)) → paired_with leads a is ≡ o →
+    option_or o (option_map (λ rest. i ∷ rest) (paired (leads_after leads i) is)) ≡ Some new →
+    (is_straight is ≡ true → (rest : List Inst) (env : Env) (m : Memory) → paired (leads_after leads i) is ≡ Some rest → Known start (leads_after leads i) env →
+      EndsBetter (run_insts t rest (at env m)) (run_insts t is (at env m))) →
+    EndsBetter (run_insts t new (at env m)) (run_insts t (i ∷ is) (at env m))
+  or_rest a led None found e more = with_rest (paired (leads_after leads i) is) refl e more
+  or_rest a led (Some n) found e more = with_store a led (found ∙ e)
+  by_store : (o : Option LedStore) → led_store_of leads i ≡ o →
+    option_or (option_and_then (λ a. paired_with leads a is) o) (option_map (λ rest. i ∷ rest) (paired (leads_after leads i) is)) ≡ Some new →
+    (is_straight is ≡ true → (rest : List Inst) (env : Env) (m : Memory) → paired (leads_after leads i) is ≡ Some rest → Known start (leads_after leads i) env →
+      EndsBetter (run_insts t rest (at env m)) (run_insts t is (at env m))) →
+    EndsBetter (run_insts t new (at env m)) (run_insts t (i ∷ is) (at env m))
+  by_store None led e more = with_rest (paired (leads_after leads i) is) refl e more
+  by_store (Some a) led e more = or_rest a led (paired_with leads a is) refl e more
+
+-- ---- no phi comes in
+
+paired_with_no_phi : (is : List Inst) (leads : Leads) (a : LedStore) (new : List Inst) → is_straight is ≡ true → paired_with leads a is ≡ Some new → HasNoPhi new
+paired_with_no_phi [] leads a new h e = absurd (true_of h)
+paired_with_no_phi (j ∷ js) leads a new h e = by_kind (is_memory j.op) e
+  where
+  none : None ≡ Some new → ⊥
+  none e = cc
+  some : (i : Inst) (rest : List Inst) → Some (i ∷ rest) ≡ Some new → i ∷ rest ≡ new
+  some i rest e = cc
+  by_order : (b : LedStore) (x y : Bool) →
+    option_map (λ both. both ∷ js) (cond x (Some (both_stored j a b)) (cond y (Some (both_stored j b a)) None)) ≡ Some new → HasNoPhi new
+  by_order b true y e = subst HasNoPhi (some (both_stored j a b) js e) refl
+  by_order b false true e = subst HasNoPhi (some (both_stored j b a) js e) refl
+  by_order b false false e = absurd (none e)
+  by_test : (b : LedStore) (x : Bool) → option_map (λ both. both ∷ js) (cond x (joined_by_distance j a b) None) ≡ Some new → HasNoPhi new
+  by_test b true e = by_order b (int_eq b.constant (a.constant +ℤ pos 4)) (int_eq a.constant (b.constant +ℤ pos 4)) e
+  by_test b false e = absurd (none e)
+  by_led : (o : Option LedStore) → option_map (λ both. both ∷ js) (option_and_then (joined leads j a) o) ≡ Some new → HasNoPhi new
+  by_led None e = absurd (none e)
+  by_led (Some b) e = by_test b (is_lead (leads a.pointer) a.base a.constant && same_id a.base b.base) e
+  by_rest : (o : Option (List Inst)) → option_map (λ rest. j ∷ rest) o ≡ Some new → HasNoPhi new
+  by_rest None e = absurd (none e)
+  by_rest (Some rest) e = subst HasNoPhi (some j rest e) (straight_no_phi (j ∷ js) h)
+  by_kind : (b : Bool) → cond b (option_map (λ both. both ∷ js) (joined_to leads a j)) (option_map (λ rest. j ∷ rest) (paired_with (leads_after leads j) a js)) ≡ Some new → HasNoPhi new
+  by_kind true e = by_led (led_store_of leads j) e
+  by_kind false e = by_rest (paired_with (leads_after leads j) a js) e
+
+pub paired_no_phi : (is : List Inst) (leads : Leads) (new : List Inst) → is_straight is ≡ true → paired leads is ≡ Some new → HasNoPhi new
+paired_no_phi [] leads new h e = absurd (true_of h)
+paired_no_phi (i ∷ is) leads new h e = by_store (led_store_of leads i) e
+  where
+  none : None ≡ Some new → ⊥
+  none e = cc
+  some : (rest : List Inst) → Some (i ∷ rest) ≡ Some new → i ∷ rest ≡ new
+  some rest e = cc
+  by_rest : (o : Option (List Inst)) → option_map (λ rest. i ∷ rest) o ≡ Some new → HasNoPhi new
+  by_rest None e = absurd (none e)
+  by_rest (Some rest) e = subst HasNoPhi (some rest e) (straight_no_phi (i ∷ is) h)
+  or_rest : (a : LedStore) (o : Option (List Inst)) → paired_with leads a is ≡ o →
+    option_or o (option_map (λ rest. i ∷ rest) (paired (leads_after leads i) is)) ≡ Some new → HasNoPhi new
+  or_rest a None found e = by_rest (paired (leads_after leads i) is) e
+  or_rest a (Some n) found e = by_first (straight_from i is h)
+    where
+    by_first : StraightFrom i is → HasNoPhi new
+    by_first (Last r nil) = absurd (none (sym (ap (paired_with leads a) nil) ∙ found ∙ e))
+    by_first (More p r) = paired_with_no_phi is leads a new r (found ∙ e)
+  by_store : (o : Option LedStore) → option_or (option_and_then (λ a. paired_with leads a is) o) (option_map (λ rest. i ∷ rest) (paired (leads_after leads i) is)) ≡ Some new → HasNoPhi new
+  by_store None e = by_rest (paired (leads_after leads i) is) e
+  by_store (Some a) e = or_rest a (paired_with leads a is) refl e
