@@ -18,7 +18,7 @@ use Rattle.ir_model.specs.Run.{start_env}
 use Rattle.ir_model.specs.Fits.{ValueFits, PointerFits}
 use Rattle.ir_model.proofs.Pointers.{moved-moved}
 use Rattle.vx_serial.specs.Pair.{Lead, Leads, leads_at_start, set_lead, lead_on}
-use Rattle.rf_pack.proofs.Rows.{OffsetFits}
+use Rattle.rf_pack.specs.Lanes.{OffsetFits}
 
 -- a value is where its lead says, from the environment at the start
 abbrev pub LeadHolds : Env → Lead → Value → Type 0

@@ -8,8 +8,8 @@ use Rattle.ir_model.specs.Memory.{Memory, lane_bytes, row_bytes, stored}
 use Rattle.ir_model.proofs.Lists.{length-lane_bytes}
 use Rattle.ir_model.proofs.Stores.{IsStored, stored-is, is-stored}
 use Rattle.ir_model.proofs.Pointers.{next_place}
-use Rattle.rf_pack.specs.Lanes.{LaneStore, lanes_of, stored_each}
-use Rattle.rf_pack.proofs.Rows.{OffsetFits, row_stands, IsSwapped, swapped}
+use Rattle.rf_pack.specs.Lanes.{OffsetFits, LaneStore, lanes_of}
+use Rattle.rf_pack.proofs.Rows.{stored_each, row_stands, IsSwapped, swapped}
 
 pub moved-plus : (p : Pointer) (a b : ℤ) → moved (moved p a) b ≡ moved p (a +ℤ b)
 moved-plus None a b = refl

@@ -4,10 +4,18 @@ use Rattle.std.specs.Int.{w64, int_wrap}
 use Rattle.std.proofs.lemmas.Int.{SFits-int_wrap, ints}
 use Rattle.ir_model.specs.Values.{Lane, Pointer, MayStandFor, moved}
 use Rattle.ir_model.specs.Memory.{Object, Memory, put, lane_bytes, row_bytes, stored}
+use Rattle.ir_types.specs.declared.ty.Ty.TheVariants.{Row}
+use Rattle.ir_model.specs.declared.value.Value.TheVariants.{Row as RowValue}
+use Rattle.ir_model.specs.Step.{bytes_in, memory_effect}
 use Rattle.ir_model.proofs.Lists.{put-append, put_comm, length-put, slice_get-set_same, length-lane_bytes}
 use Rattle.ir_model.proofs.Stores.{IsPlace, IsStored, stored-is, is-stored, set_twice}
 use Rattle.ir_model.proofs.Pointers.{next_place}
-use Rattle.rf_pack.specs.Lanes.{LaneStore, lanes_of, stored_each}
+use Rattle.rf_pack.specs.Lanes.{OffsetFits, LaneStore, lanes_of, memory_after, after_store, after_stores}
+
+-- the memory after lanes of k bytes each are stored at neighbouring places
+abbrev pub stored_each : ℕ → Pointer → List LaneStore → Memory → Option Memory
+stored_each k p [] m = Some m
+stored_each k p (l ∷ ls) m = option_and_then (stored_each k (moved p (pos k)) ls) (stored l.align (lane_bytes k l.lane) p m)
 
 -- what the second of two stores to one object finds
 pub found_again : (a1 a2 : ℕ) (b1 b2 : List Lane) (o : ℕ) (z1 z2 : ℤ) (m m1 m2 : Memory) →
@@ -67,11 +75,6 @@ row_upward k o z l (l2 ∷ ls) m m2 less fits e = first (stored l.align (lane_by
       both l.align l2.align k (lane_bytes k l.lane) (row_bytes k (lanes_of (l2 ∷ ls))) o z m m1 m2
         (length-lane_bytes k l.lane) less fits (stored-is l.align (lane_bytes k l.lane) o z m m1 is) (rest m1 e)
 
--- an offset of 64 bits, where the pointer is not poison
-abbrev pub OffsetFits : Pointer → Type 0
-OffsetFits None = Unit {0}
-OffsetFits (Some p) = FitsSigned w64 p.1
-
 -- the store of the row may stand for the stores of its lanes
 pub row_stands : (k : ℕ) (p : Pointer) (l : LaneStore) (ls : List LaneStore) (m : Memory) → k < 2 ^ 63 → OffsetFits p →
   MayStandFor (stored l.align (row_bytes k (lanes_of (l ∷ ls))) p m) (stored_each k p (l ∷ ls) m)
@@ -82,6 +85,29 @@ row_stands k (Some p) l ls m less fits = by_end (stored_each k (Some p) (l ∷ l
   by_end None is = tt
   by_end (Some m2) is =
       is-stored l.align (row_bytes k (lanes_of (l ∷ ls))) p.0 p.1 m m2 (row_upward k p.0 p.1 l ls m m2 less fits is)
+
+memory_of_effect : (x : Option Memory) → memory_after (memory_effect x) ≡ x
+memory_of_effect None = refl
+memory_of_effect (Some m) = refl
+
+after_stores-each : (w : ℕ) (p : Pointer) (ls : List LaneStore) (m : Memory) → after_stores w p ls m ≡ stored_each (bytes_in w) p ls m
+after_stores-each w p [] m = refl
+after_stores-each w p (l ∷ ls) m =
+    ap (option_and_then (after_stores w (moved p (pos (bytes_in w))) ls)) (memory_of_effect (stored l.align (lane_bytes (bytes_in w) l.lane) p m))
+    ∙ by_memory (stored l.align (lane_bytes (bytes_in w) l.lane) p m) (λ n. after_stores-each w (moved p (pos (bytes_in w))) ls n)
+  where
+  by_memory : (x : Option Memory) → ((n : Memory) → after_stores w (moved p (pos (bytes_in w))) ls n ≡ stored_each (bytes_in w) (moved p (pos (bytes_in w))) ls n) →
+    option_and_then (after_stores w (moved p (pos (bytes_in w))) ls) x ≡ option_and_then (stored_each (bytes_in w) (moved p (pos (bytes_in w))) ls) x
+  by_memory None rest = refl
+  by_memory (Some n) rest = rest n
+
+-- the vector store instruction may stand for the store instructions of its lanes
+pub row_store_stands : (w : ℕ) (p : Pointer) (l : LaneStore) (ls : List LaneStore) (m : Memory) → w ≤ 64 → OffsetFits p →
+  MayStandFor (after_store l.align (Row (length (l ∷ ls)) w) (RowValue (lanes_of (l ∷ ls))) p m) (after_stores w p (l ∷ ls) m)
+row_store_stands w p l ls m narrow fits =
+    subst (λ x. MayStandFor x (after_stores w p (l ∷ ls) m)) (sym (memory_of_effect (stored l.align (row_bytes (bytes_in w) (lanes_of (l ∷ ls))) p m)))
+    (subst (MayStandFor (stored l.align (row_bytes (bytes_in w) (lanes_of (l ∷ ls))) p m)) (sym (after_stores-each w p (l ∷ ls) m))
+      (row_stands (bytes_in w) p l ls m (omega arith) fits))
 
 -- two stores to one object at places apart, in the other order
 pub record IsSwapped (a1 a2 : ℕ) (b1 b2 : List Lane) (o : ℕ) (z1 z2 : ℤ) (m m2 : Memory) : Type 0 where
