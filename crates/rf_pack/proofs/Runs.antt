@@ -12,7 +12,8 @@ use Rattle.ir_model.specs.Values.{Lane, Env, Pointer, pointer_of, moved, same_id
 use Rattle.ir_model.specs.Memory.{Memory, lane_bytes, row_bytes, stored}
 use Rattle.ir_model.specs.Step.{State, Effect, memory_effect, value_effect, result_of, after_effect, step_of}
 use Rattle.ir_model.specs.Run.{Ended, Stops, Returns, Goes, is_terminator, is_phi, then_ends, run_insts}
-use Rattle.vx_serial.specs.Pair.{is_statement_of, is_straight, is_memory, Lead, Leads, leads_after, LedStore, led_store_of, both_stored, joined_by_distance, is_lead, joined, joined_to, paired_with, paired}
+use Rattle.vx_serial.specs.declared.pairing.scan.LedStore.{LedStore}
+use Rattle.vx_serial.specs.Pair.{is_statement_of, is_straight, is_memory, Lead, Leads, leads_after, led_store_of, both_stored, joined_by_distance, is_lead, joined, joined_to, paired_with, paired}
 use Rattle.rf_pack.proofs.Known.{LeadHolds, Known}
 use Rattle.rf_pack.proofs.Statements.{effect_in, both_true, true_of, Plain, IsLed, led-is, quiet}
 use Rattle.rf_pack.proofs.Mates.{lower_first, lower_second}

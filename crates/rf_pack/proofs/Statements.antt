@@ -20,7 +20,8 @@ use Rattle.ir_model.specs.Values.{Lane, Env, Pointer, pointer_of, with_value, va
 use Rattle.ir_model.specs.Memory.{Memory, lane_bytes, stored}
 use Rattle.ir_model.specs.Step.{State, Effect, memory_effect, value_effect, store_effect, result_of, bytes_of, effect_of, stepped, after_effect, step_of}
 use Rattle.ir_model.specs.Run.{is_terminator, is_phi}
-use Rattle.vx_serial.specs.Pair.{is_int, is_ptr, is_byte, is_number, is_local, is_plain, is_operand, is_literal, is_statement_of, is_memory, Lead, Leads, set_lead, lead_on, leads_by, LedStore, led_store, led_store_by}
+use Rattle.vx_serial.specs.declared.pairing.scan.LedStore.{LedStore}
+use Rattle.vx_serial.specs.Pair.{is_int, is_ptr, is_byte, is_number, is_local, is_plain, is_operand, is_literal, is_statement_of, is_memory, Lead, Leads, set_lead, lead_on, leads_by, led_store, led_store_by}
 use Rattle.rf_pack.proofs.Known.{LeadHolds, Known, known-set, lead_on-holds}
 
 -- the effect of an instruction in an environment

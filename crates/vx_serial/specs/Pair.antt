@@ -30,6 +30,7 @@ use Rattle.ir_types.specs.declared.module.Item.{Item}
 use Rattle.ir_types.specs.declared.module.Item.TheVariants.{Func as FuncItem}
 use Rattle.ir_types.specs.declared.module.Module.{Module}
 use Rattle.ir_model.specs.Values.{Lane, same_id}
+use Rattle.vx_serial.specs.declared.pairing.scan.LedStore.{LedStore}
 
 -- ---- the first forms
 
@@ -168,14 +169,7 @@ leads_after leads i = leads_by leads i.id i.op i.opds
 
 -- ---- pairs of stores
 
--- a store of one literal through a pointer that leads to a parameter
-pub record LedStore : Type 0 where
-  pub lane : Lane
-  pub pointer : Id
-  pub align : ℕ
-  pub base : Id
-  pub constant : ℤ
-
+-- a store of one literal through a pointer that leads to a parameter, as `LedStore` of the code
 abbrev pub led_store : ℕ → List Lane → Id → Lead → Option LedStore
 led_store align (lane ∷ []) p (Some to) =
     Some (record { lane = lane; pointer = p; align = align; base = to.0; constant = to.1 })

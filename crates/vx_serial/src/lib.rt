@@ -3,3 +3,7 @@
 //! `pair` gives the module that the optimizer writes: two neighbouring stores of one straight-line function become one. Want of
 //! memory is the only failure.
 #![tactic(auto)]
+
+mod pairing;
+
+pub use pairing::pair;
