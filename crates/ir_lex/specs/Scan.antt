@@ -5,6 +5,7 @@ use Rattle.ir_lex.specs.Bytes.{quote, semicolon, begins_name, is_word_byte, is_d
 use Rattle.ir_lex.specs.Faults.{enter, begins_fault}
 use Rattle.ir_lex.specs.declared.list.Token.{Token}
 use Rattle.ir_lex.specs.declared.faults.Part.{Part}
+use Rattle.ir_lex.specs.declared.faults.Part.TheVariants.{Plain}
 
 -- one more, where there is something
 abbrev pub one_more : ℕ → ℕ
@@ -61,3 +62,7 @@ texts line = texts_from 0 line
 abbrev pub fault_from : Part → ℕ → List ℕ → Option ℕ
 fault_from part at [] = None
 fault_from part at (b ∷ bs) = cond (begins_fault part (b ∷ bs)) (Some at) (fault_from (enter part b) (at + 1) bs)
+
+-- the place of the first fault of a line
+abbrev pub fault_of : List ℕ → Option ℕ
+fault_of line = fault_from Plain 0 line

@@ -2,6 +2,10 @@
 -- Each form is its words in order; `None` where the line is no such form.
 use Rattle.std.specs.Prelude.{◌≡◌, refl, ℕ, ◌+◌, ◌-◌, ◌*◌, ◌^◌, ◌==◌, Bool, true, false, not, ◌&&◌, ◌||◌, Option, None, Some, List, [], ◌∷◌, ◌++◌, codes, cond, nat_eq, nat_lt, nat_le, option_and_then}
 use Rattle.std.specs.Str.{bytes_eq}
+use Rattle.std.specs.Map.{lookup}
+use Rattle.vx_num.specs.declared.operations.Flags.{Flags}
+use Rattle.vec_top.specs.declared.first_forms.scope.Value.{Value}
+use Rattle.vec_top.specs.declared.first_forms.forms.Act.{Act}
 use Rattle.std.specs.Int.{is_power_of_two}
 use Rattle.vx_num.specs.declared.operations.BinOp.TheVariants.{Add}
 use Rattle.ir_lex.specs.Bytes.{begins_name, is_digit}
@@ -14,30 +18,31 @@ use Rattle.ir_types.specs.declared.opd.Opd.TheVariants.{Val, Lit}
 use Rattle.ir_types.specs.declared.op.Op.{Op}
 use Rattle.ir_types.specs.declared.op.Op.TheVariants.{Bin, Gep, Load, Store, Ret}
 
--- what is known of a name: its value's type and id
-pub record Known : Type 0 where
-  pub name : List ℕ
-  pub ty : Ty
-  pub id : Id
+-- the names that are known, in order, each with its value's type and id
+abbrev pub Known : Type 0
+Known = List (List ℕ × Value)
 
 abbrev pub Words : Type 0
 Words = List (List ℕ)
 
--- a part of a line: what it says, and the words behind it
+infixl 20 ◌>>=◌
+-- what follows from what is there, if anything is
 abbrev pub ◌>>=◌ : {A B : Type 0} → Option A → (A → Option B) → Option B
 o >>= f = option_and_then f o
 
--- the newest of the values known by a name
-abbrev pub known_as : List ℕ → List Known → Option Known
-known_as name [] = None
-known_as name (k ∷ ks) = cond (bytes_eq k.name name) (Some k) (known_as name ks)
+-- the value known by a name
+abbrev pub known_as : List ℕ → Known → Option Value
+known_as name ks = lookup (bytes_eq name) ks
 
 -- numbers
 
--- the number that more digits make behind `n`, of up to 64 bits
+-- the number that one more digit makes behind `n`, of up to 64 bits
+abbrev pub with_digit : ℕ → ℕ → Option ℕ
+with_digit n d = cond (is_digit d && nat_lt (10 * n + (d - 48)) (2 ^ 64)) (Some (10 * n + (d - 48))) None
+
 abbrev pub digits_from : ℕ → List ℕ → Option ℕ
 digits_from n [] = Some n
-digits_from n (d ∷ ds) = cond (is_digit d && nat_lt (10 * n + (d - 48)) (2 ^ 64)) (digits_from (10 * n + (d - 48)) ds) None
+digits_from n (d ∷ ds) = with_digit n d >>= (λ m. digits_from m ds)
 
 -- a number of at least one digit
 abbrev pub number_of : List ℕ → Option ℕ
@@ -96,7 +101,7 @@ is_pointer_ty Ptr = true
 is_pointer_ty _ = false
 
 -- a known value whose type passes a test
-abbrev pub local_of_ty : (Ty → Bool) → List Known → List ℕ → Option Opd
+abbrev pub local_of_ty : (Ty → Bool) → Known → List ℕ → Option Opd
 local_of_ty wanted ks word =
     local_name word >>= (λ name. known_as name ks >>= (λ k. cond (wanted k.ty) (Some (Val k.id)) None))
 
@@ -108,11 +113,11 @@ abbrev pub literal_operand : ℕ → List ℕ → Option Opd
 literal_operand w word = literal_of w word >>= (λ n. Some (literal_opd w n))
 
 -- an operand of 32 bits: a literal, or a known value of that type
-abbrev pub number_operand : List Known → List ℕ → Option Opd
+abbrev pub number_operand : Known → List ℕ → Option Opd
 number_operand ks word = cond (begins_local word) (local_of_ty is_number_ty ks word) (literal_operand 32 word)
 
 -- a pointer: a known value of that type
-abbrev pub pointer_operand : List Known → List ℕ → Option Opd
+abbrev pub pointer_operand : Known → List ℕ → Option Opd
 pointer_operand ks word = local_of_ty is_pointer_ty ks word
 
 -- parts of a line: each gives what it says and the words behind it
@@ -129,17 +134,21 @@ abbrev pub at_end : {A : Type 0} → Words → A → Option A
 at_end [] a = Some a
 at_end (w ∷ ws) a = None
 
--- `, align N` at the end of a line, or nothing, which is an align of 1
-unfoldable pub align_at : Words → Option ℕ
-align_at [] = Some 1
-align_at (w ∷ ws) = do
-  a ← expect (codes ",") (w ∷ ws)
+-- `, align N` at the end of a line
+unfoldable pub given_align : Words → Option ℕ
+given_align ws = do
+  a ← expect (codes ",") ws
   b ← expect (codes "align") a
   n ← one align_of b
   at_end n.1 n.0
 
+-- the same, or nothing, which is an align of 1
+abbrev pub align_at : Words → Option ℕ
+align_at [] = Some 1
+align_at (w ∷ ws) = given_align (w ∷ ws)
+
 -- `, ptr P` and an align at the end of a line
-unfoldable pub place_at : List Known → Words → Option (Opd × ℕ)
+unfoldable pub place_at : Known → Words → Option (Opd × ℕ)
 place_at ks ws = do
   a ← expect (codes ",") ws
   b ← expect (codes "ptr") a
@@ -147,30 +156,33 @@ place_at ks ws = do
   n ← align_at p.1
   Some (p.0, n)
 
--- what a statement does: the type of its result or of what it stores, its operation and its operands
-pub record Act : Type 0 where
-  pub ty : Ty
-  pub op : Op
-  pub opds : List Opd
-
 abbrev pub act : Ty → Op → List Opd → Act
 act ty op opds = record { ty = ty; op = op; opds = opds }
 
 -- `load i32, ptr P, align N`
-unfoldable pub load_form : List Known → Words → Option Act
+unfoldable pub load_form : Known → Words → Option Act
 load_form ks ws = do
   a ← expect (codes "i32") ws
   p ← place_at ks a
   Some (act (Int 32) (Load p.1) (p.0 ∷ []))
 
+-- `A, B` at the end of a line
+unfoldable pub numbers_at : Known → Words → Option (Opd × Opd)
+numbers_at ks ws = do
+  x ← one (number_operand ks) ws
+  a ← expect (codes ",") x.1
+  y ← one (number_operand ks) a
+  at_end y.1 (x.0, y.0)
+
+abbrev pub no_flags : Flags
+no_flags = record { nuw = false; nsw = false; exact = false; disjoint = false }
+
 -- `add i32 A, B`
-unfoldable pub add_form : List Known → Words → Option Act
+unfoldable pub add_form : Known → Words → Option Act
 add_form ks ws = do
   a ← expect (codes "i32") ws
-  x ← one (number_operand ks) a
-  b ← expect (codes ",") x.1
-  y ← one (number_operand ks) b
-  at_end y.1 (act (Int 32) (Bin Add (record { nuw = false; nsw = false; exact = false; disjoint = false })) (x.0 ∷ y.0 ∷ []))
+  x ← numbers_at ks a
+  Some (act (Int 32) (Bin Add no_flags) (x.0 ∷ x.1 ∷ []))
 
 -- `getelementptr i8, ptr P, i64 C`
 unfoldable pub index_at : Words → Option Opd
@@ -180,7 +192,7 @@ index_at ws = do
   c ← one (literal_operand 64) b
   at_end c.1 c.0
 
-unfoldable pub address_form : List Known → Words → Option Act
+unfoldable pub address_form : Known → Words → Option Act
 address_form ks ws = do
   a ← expect (codes "i8") ws
   b ← expect (codes ",") a
@@ -190,7 +202,7 @@ address_form ks ws = do
   Some (act Ptr (Gep (One (Int 8)) false) (p.0 ∷ i ∷ []))
 
 -- `store i32 A, ptr P, align N`
-unfoldable pub scalar_store : List Known → Words → Option Act
+unfoldable pub scalar_store : Known → Words → Option Act
 scalar_store ks ws = do
   a ← expect (codes "i32") ws
   x ← one (number_operand ks) a
@@ -212,6 +224,9 @@ lane_at ws = do
   a ← expect (codes "i32") ws
   one (literal_of 32) a
 
+abbrev pub pair_opd : ℕ → ℕ → Opd
+pair_opd a b = Lit (record { ty = Row 2 32; lanes = Some a ∷ Some b ∷ [] })
+
 -- `<i32 A, i32 B>`
 unfoldable pub pair_at : Words → Option (Opd × Words)
 pair_at ws = do
@@ -220,10 +235,10 @@ pair_at ws = do
   b ← expect (codes ",") x.1
   y ← lane_at b
   c ← expect (codes ">") y.1
-  Some (Lit (record { ty = Row 2 32; lanes = Some x.0 ∷ Some y.0 ∷ [] }), c)
+  Some (pair_opd x.0 y.0, c)
 
 -- `store <2 x i32> <i32 A, i32 B>, ptr P, align N`
-unfoldable pub vector_store : List Known → Words → Option Act
+unfoldable pub vector_store : Known → Words → Option Act
 vector_store ks ws = do
   a ← pair_ty ws
   x ← pair_at a
@@ -231,7 +246,7 @@ vector_store ks ws = do
   Some (act (Row 2 32) (Store p.1) (x.0 ∷ p.0 ∷ []))
 
 -- a store of a number or of a vector
-abbrev pub store_form : List Known → Words → Option Act
+abbrev pub store_form : Known → Words → Option Act
 store_form ks [] = None
 store_form ks (w ∷ ws) = cond (bytes_eq w (codes "<")) (vector_store ks (w ∷ ws)) (scalar_store ks (w ∷ ws))
 
@@ -242,14 +257,14 @@ return_form ws = do
   at_end a (act Void Ret [])
 
 -- a statement without a result
-abbrev pub effect_form : List Known → Words → Option Act
+abbrev pub effect_form : Known → Words → Option Act
 effect_form ks [] = None
 effect_form ks (w ∷ ws) =
     cond (bytes_eq w (codes "store")) (store_form ks ws)
     (cond (bytes_eq w (codes "ret")) (return_form ws) None)
 
 -- what stands behind `%x =`
-abbrev pub value_form : List Known → Words → Option Act
+abbrev pub value_form : Known → Words → Option Act
 value_form ks [] = None
 value_form ks (w ∷ ws) =
     cond (bytes_eq w (codes "load")) (load_form ks ws)

@@ -1,4 +1,7 @@
--- What the program promises: `Replies` says what it writes and answers, `Reads` which texts are modules of the first forms.
+-- What the program promises. `Reads` says which texts are modules of the first forms.
 pub mod Lines
 pub mod Forms
+pub mod Function
+pub mod Gives
 pub mod Reads
+pub mod Replies

@@ -1,9 +1,8 @@
 -- The lines of a text, and the words of a line.
-use Rattle.std.specs.Prelude.{◌≡◌, refl, ℕ, ◌==◌, Bool, true, false, ◌&&◌, Option, None, Some, List, [], ◌∷◌, codes, cond}
+use Rattle.std.specs.Prelude.{◌≡◌, refl, ℕ, suc, ◌==◌, Bool, true, false, ◌&&◌, Option, None, Some, List, [], ◌∷◌, codes, cond}
 use Rattle.std.specs.List.{list_any}
 use Rattle.ir_lex.specs.Bytes.{semicolon}
-use Rattle.ir_lex.specs.Scan.{fault_from, texts}
-use Rattle.ir_lex.specs.declared.faults.Part.TheVariants.{Plain}
+use Rattle.ir_lex.specs.Scan.{fault_of, texts}
 
 -- whether a line feed comes first
 abbrev pub begins_feed : List ℕ → Bool
@@ -24,6 +23,17 @@ lines_of (b ∷ bs) =
     (cond (b == 13 && begins_feed bs) (lines_of bs)
     (onto b (lines_of bs)))
 
+-- how many bytes stand before the first line feed
+abbrev pub line_len : List ℕ → ℕ
+line_len [] = 0
+line_len (b ∷ bs) = cond (b == 10) 0 (suc (line_len bs))
+
+-- a piece without the carriage return at its end
+abbrev pub without_return : List ℕ → List ℕ
+without_return [] = []
+without_return (b ∷ []) = cond (b == 13) [] (b ∷ [])
+without_return (b ∷ c ∷ cs) = b ∷ without_return (c ∷ cs)
+
 -- whether a line has a comment, or a string with a semicolon, of which the first forms have neither
 abbrev pub has_semicolon : List ℕ → Bool
 has_semicolon line = list_any (λ b. b == semicolon) line
@@ -35,7 +45,7 @@ sound_words (Some _) line = None
 
 -- the words of a line: the bytes of its tokens; a line with a lexical fault or a comment has none
 abbrev pub words_of : List ℕ → Option (List (List ℕ))
-words_of line = cond (has_semicolon line) None (sound_words (fault_from Plain 0 line) line)
+words_of line = cond (has_semicolon line) None (sound_words (fault_of line) line)
 
 -- two lines, the first ended as on another system, the last not ended
 two_lines : lines_of (codes "a\r\nb") ≡ codes "a" ∷ codes "b" ∷ []

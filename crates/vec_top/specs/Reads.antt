@@ -1,143 +1,15 @@
 -- Which texts are modules of the first forms, and which line of another text is the first that cannot stand.
 --
 -- A text has no lines but blank ones, or it has one function between blank lines: a header, statements of which the last and no
--- other is `ret void`, and a closing brace. `Reads` says so of a text and a module; `first_fault` names a line by its number.
-use Rattle.std.specs.Prelude.{◌≡◌, refl, ℕ, ◌+◌, Bool, true, false, Option, None, Some, Result, Ok, Err, List, [], ◌∷◌, ◌++◌, codes, cond, nat_eq, is_none}
-use Rattle.std.specs.Str.{bytes_eq}
-use Rattle.ir_types.specs.declared.id.Id.{Id}
-use Rattle.ir_types.specs.declared.ty.Ty.{Ty}
-use Rattle.ir_types.specs.declared.ty.Ty.TheVariants.{Void, Int, Ptr}
-use Rattle.ir_types.specs.declared.op.Op.{Op}
-use Rattle.ir_types.specs.declared.op.Op.TheVariants.{Ret}
-use Rattle.ir_types.specs.declared.inst.Inst.{Inst}
-use Rattle.ir_types.specs.declared.func.Param.{Param}
-use Rattle.ir_types.specs.declared.func.Func.{Func}
-use Rattle.ir_types.specs.declared.module.Item.{Item}
-use Rattle.ir_types.specs.declared.module.Item.TheVariants.{Func as FuncItem}
+-- other is `ret void`, and a closing brace. `Reads` says so of a text and a module; `module_of` gives the module, or the number of
+-- the first line that cannot stand, and both agree (`proofs/Agree`).
+use Rattle.std.specs.Prelude.{◌≡◌, ℕ, ◌+◌, Bool, true, false, Option, None, Some, Result, Ok, Err, List, [], ◌∷◌, ◌++◌, cond}
 use Rattle.ir_types.specs.declared.module.Module.{Module}
+use Rattle.vec_top.specs.declared.first_forms.reader.Stage.{Stage}
+use Rattle.vec_top.specs.declared.first_forms.reader.Stage.TheVariants.{Before, Inside, After}
 use Rattle.vec_top.specs.Lines.{lines_of, words_of}
-use Rattle.vec_top.specs.Forms.{Known, Words, ◌>>=◌, known_as, expect, one, at_end, symbol_name, local_name, begins_local, Act, effect_form, value_form}
-
--- a function up to some line: what it has, what is known in it, the number of its next value, and whether it has returned
-pub record Open : Type 0 where
-  pub name : List ℕ
-  pub params : List Param
-  pub insts : List Inst
-  pub known : List Known
-  pub next : ℕ
-  pub returned : Bool
-
--- ids are of the module as read, counted over parameters and instructions
-abbrev pub id_of : ℕ → Id
-id_of k = record { region = 0; k = k }
-
--- a value more is known, where nothing is by that name
-abbrev pub fresh_among : List Known → List ℕ → Option (List ℕ)
-fresh_among ks name = cond (is_none (known_as name ks)) (Some name) None
-
--- the type of a parameter
-abbrev pub param_ty : List ℕ → Option Ty
-param_ty word = cond (bytes_eq word (codes "ptr")) (Some Ptr) (cond (bytes_eq word (codes "i32")) (Some (Int 32)) None)
-
-abbrev pub with_param : Open → Ty → List ℕ → Open
-with_param st ty name = record st {
-  params = st.params ++ record { id = id_of st.next; name = Some name; ty = ty; attrs = []; noalias = false } ∷ [];
-  known = record { name = name; ty = ty; id = id_of st.next } ∷ st.known;
-  next = st.next + 1
-}
-
--- one parameter
-unfoldable pub param_form : Open → List ℕ → List ℕ → Option Open
-param_form st ty_word word = do
-  ty ← param_ty ty_word
-  name ← local_name word
-  new ← fresh_among st.known name
-  Some (with_param st ty new)
-
--- parameters, each with the comma or the closing parenthesis behind it
-abbrev pub params_form : Open → Words → Option (Open × Words)
-params_form st (ty ∷ name ∷ sep ∷ ws) =
-    param_form st ty name >>= (λ after.
-      cond (bytes_eq sep (codes ",")) (params_form after ws)
-      (cond (bytes_eq sep (codes ")")) (Some (after, ws)) None))
-params_form st _ = None
-
--- what stands between the parentheses
-abbrev pub list_form : Open → Words → Option (Open × Words)
-list_form st [] = None
-list_form st (w ∷ ws) = cond (bytes_eq w (codes ")")) (Some (st, ws)) (params_form st (w ∷ ws))
-
-abbrev pub opened : List ℕ → Open
-opened name = record { name = name; params = []; insts = []; known = []; next = 0; returned = false }
-
--- `define void @NAME(PARAMS) {`
-unfoldable pub header_form : Words → Option Open
-header_form ws = do
-  a ← expect (codes "define") ws
-  b ← expect (codes "void") a
-  name ← one symbol_name b
-  c ← expect (codes "(") name.1
-  st ← list_form (opened name.0) c
-  d ← expect (codes "{") st.1
-  at_end d st.0
-
-abbrev pub is_return : Op → Bool
-is_return Ret = true
-is_return _ = false
-
-abbrev pub inst_of : Open → Option (List ℕ) → Act → Inst
-inst_of st name a = record { id = id_of st.next; name = name; ty = a.ty; op = a.op; opds = a.opds }
-
--- a statement without a result
-abbrev pub with_effect : Open → Act → Open
-with_effect st a = record st { insts = st.insts ++ inst_of st None a ∷ []; next = st.next + 1; returned = is_return a.op }
-
--- a statement with a result
-abbrev pub with_value : Open → List ℕ → Act → Open
-with_value st name a = record st {
-  insts = st.insts ++ inst_of st (Some name) a ∷ [];
-  known = record { name = name; ty = a.ty; id = id_of st.next } ∷ st.known;
-  next = st.next + 1
-}
-
-abbrev pub effect_line : Open → Words → Option Open
-effect_line st ws = effect_form st.known ws >>= (λ a. Some (with_effect st a))
-
--- `%x = `, where nothing is known by that name, and a form with a result
-unfoldable pub value_line : Open → Words → Option Open
-value_line st ws = do
-  name ← one local_name ws
-  new ← fresh_among st.known name.0
-  a ← expect (codes "=") name.1
-  said ← value_form st.known a
-  Some (with_value st new said)
-
-abbrev pub has_result : Words → Bool
-has_result [] = false
-has_result (w ∷ ws) = begins_local w
-
--- a statement in a function that has not returned
-abbrev pub statement : Open → Words → Option Open
-statement st ws = cond st.returned None (cond (has_result ws) (value_line st ws) (effect_line st ws))
-
--- whether a line is the closing brace
-abbrev pub is_close : Words → Bool
-is_close [] = false
-is_close (w ∷ []) = bytes_eq w (codes "}")
-is_close (w ∷ v ∷ ws) = false
-
--- modules
-
-abbrev pub func_of : Open → Func
-func_of st = record { before = []; ret = Void; name = st.name; params = st.params; after = []; blocks = record { name = None; insts = st.insts } ∷ [] }
-
-abbrev pub empty_module : Module
-empty_module = record { items = []; globals = []; big_endian_line = None }
-
-abbrev pub module_with : Open → Module
-module_with st = record { items = FuncItem (func_of st) ∷ []; globals = []; big_endian_line = None }
-
--- the relation
+use Rattle.vec_top.specs.Forms.{Words, ◌>>=◌}
+use Rattle.vec_top.specs.Function.{Open, header_form, statement, is_close, empty_module, module_with}
 
 -- a line without words
 abbrev pub IsBlank : List ℕ → Type 0
@@ -182,19 +54,17 @@ pub data Reads (bytes : List ℕ) (m : Module) : Type 0 where
 
 -- the first line that cannot stand
 
--- where the lines so far lead: before the function, in it, behind it
-pub data Stage : Type 0 where
-  Before : Stage
-  Inside : Open → Stage
-  After : Open → Stage
-
 -- a line of these words before the function
 abbrev pub step_before : Words → Option Stage
 step_before [] = Some Before
 step_before (w ∷ ws) = header_form (w ∷ ws) >>= (λ st. Some (Inside st))
 
+-- a closing brace, behind the return
+abbrev pub closed : Open → Option Stage
+closed st = cond st.returned (Some (After st)) None
+
 abbrev pub step_inside : Open → Words → Option Stage
-step_inside st ws = cond (is_close ws) (cond st.returned (Some (After st)) None) (statement st ws >>= (λ after. Some (Inside after)))
+step_inside st ws = cond (is_close ws) (closed st) (statement st ws >>= (λ after. Some (Inside after)))
 
 abbrev pub step_after : Open → Words → Option Stage
 step_after st [] = Some (After st)

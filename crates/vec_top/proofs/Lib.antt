@@ -1,0 +1,5 @@
+pub mod Agree
+pub mod Known
+pub mod Outcomes
+pub mod Splitting
+pub mod Words
