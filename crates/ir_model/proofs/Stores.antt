@@ -17,7 +17,8 @@ place_of-is (pos n) size align len at e = by_test (nat_le (n + size) len && nat_
   by_test true test found = let same : n ≡ at = cc in record {
     here = ap pos same;
     room = subst (λ (k : ℕ). k + size ≤ len) same (grind (arith, nat_tests));
-    aligned = subst (λ (k : ℕ). k % align ≡ 0) same (grind (arith, nat_tests)) }
+    aligned = subst (λ (k : ℕ). k % align ≡ 0) same (grind (arith, nat_tests));
+  }
   by_test false test found = absurd cc
 place_of-is (negsuc n) size align len at e = absurd cc
 
@@ -25,8 +26,8 @@ pub is-place_of : (offset : ℤ) (size align len at : ℕ) → IsPlace offset si
 is-place_of offset size align len at p =
     ap (λ z. place_of z size align len) p.here
     ∙ ap (λ b. cond b (Some at) None) fits where
-  fits : nat_le (at + size) len && nat_eq (at % align) 0 ≡ true
-  fits = let room = p.room in let aligned = p.aligned in grind (arith, nat_tests)
+      fits : nat_le (at + size) len && nat_eq (at % align) 0 ≡ true
+      fits = let room = p.room in let aligned = p.aligned in grind (arith, nat_tests)
 
 -- a store through a pointer that leaves a memory
 pub record IsStored (align : ℕ) (bytes : List Lane) (o : ℕ) (offset : ℤ) (before after : Memory) : Type 0 where
@@ -42,6 +43,7 @@ stored-is align bytes o offset m after e = by_object (slice_get m o) refl e wher
   by_place object None found place gives = absurd cc
   by_place object (Some at) found place gives =
       record { object = object; at = at; found = found; place = place_of-is offset (length bytes) align (length object) at place; left = cc }
+
   by_object : (object : Option Object) → slice_get m o ≡ object → stored_in m o offset align bytes object ≡ Some after → IsStored align bytes o offset m after
   by_object None found gives = absurd cc
   by_object (Some object) found gives = by_place object (place_of offset (length bytes) align (length object)) found refl gives

@@ -42,9 +42,12 @@ two_stores =
 
 abbrev pub func_b : List Inst → Func
 func_b insts = record {
-  before = []; ret = Void; name = codes "b"; after = [];
+  before = [];
+  ret = Void;
+  name = codes "b";
+  after = [];
   params = record { id = id 0; name = Some (codes "p"); ty = Ptr; attrs = []; noalias = false } ∷ [];
-  blocks = record { name = None; insts = insts } ∷ []
+  blocks = record { name = None; insts = insts } ∷ [];
 }
 
 abbrev pub module_b : List Inst → Module
@@ -55,7 +58,7 @@ poison_bytes = None ∷ None ∷ None ∷ None ∷ []
 
 -- on an object of eight poison bytes both numbers are stored
 run_of_two_stores : run_of (module_b two_stores) 0 (PtrValue (Some (0, pos 0)) ∷ []) ((None ∷ None ∷ None ∷ None ∷ poison_bytes) ∷ []) 1
-  ≡ Returned None ((Some 7 ∷ Some 0 ∷ Some 0 ∷ Some 0 ∷ Some 8 ∷ Some 0 ∷ Some 0 ∷ Some 0 ∷ []) ∷ [])
+    ≡ Returned None ((Some 7 ∷ Some 0 ∷ Some 0 ∷ Some 0 ∷ Some 8 ∷ Some 0 ∷ Some 0 ∷ Some 0 ∷ []) ∷ [])
 unfolding int_wrap
 run_of_two_stores = refl
 

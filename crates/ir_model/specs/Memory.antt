@@ -89,5 +89,5 @@ loaded size align None m = None
 loaded size align (Some p) m = loaded_from p.1 size align (slice_get m p.0)
 
 store_in_the_middle : stored 1 (Some 5 ∷ None ∷ []) (Some (0, pos 1)) ((Some 1 ∷ Some 2 ∷ Some 3 ∷ Some 4 ∷ []) ∷ [])
-  ≡ Some ((Some 1 ∷ Some 5 ∷ None ∷ Some 4 ∷ []) ∷ [])
+    ≡ Some ((Some 1 ∷ Some 5 ∷ None ∷ Some 4 ∷ []) ∷ [])
 store_in_the_middle = refl

@@ -48,5 +48,5 @@ pub record ModuleRefines (new old : Module) : Type 0 where
   pub globals : new.globals ≡ old.globals
   pub layout : new.big_endian_line ≡ old.big_endian_line
   pub runs : (func : ℕ) (f : Func) → slice_get (functions_of old.items) func ≡ Some f →
-    (args : List Value) (memory : Memory) → Fits old f args memory → (bound : ℕ) →
-    OutcomeRefines (run_of new func args memory bound) (run_of old func args memory bound)
+      (args : List Value) (memory : Memory) → Fits old f args memory → (bound : ℕ) →
+      OutcomeRefines (run_of new func args memory bound) (run_of old func args memory bound)

@@ -91,8 +91,8 @@ abbrev pub enter : (Id → Ty) → Option ℕ → Env → List Inst → State �
 enter types from edge [] s = Stops
 enter types from edge (i ∷ is) s =
     cond (is_phi i.op)
-      (then_ends (with_phi edge i.id s (arm_of from i.op i.opds)) (enter types from edge is))
-      (run_insts types (i ∷ is) s)
+    (then_ends (with_phi edge i.id s (arm_of from i.op i.opds)) (enter types from edge is))
+    (run_insts types (i ∷ is) s)
 
 -- a block, if it is there
 abbrev pub run_block : (Id → Ty) → Option ℕ → State → Option Block → Ended
@@ -152,8 +152,8 @@ noalias_holds globals before _ _ = true
 abbrev pub run_func : ℕ → Func → List Value → Memory → ℕ → Outcome
 run_func globals f args m bound =
     cond (noalias_holds globals [] f.params args)
-      (run_blocks (types_of f) f.blocks bound None 0 (record { env = start_env f.params args; memory = m }))
-      Undefined
+    (run_blocks (types_of f) f.blocks bound None 0 (record { env = start_env f.params args; memory = m }))
+    Undefined
 
 -- ---- modules
 

@@ -17,3 +17,6 @@ pub type Values = Seq<Value>;
 pub type Object = Seq<Option<u8>>;
 /// A list of objects.
 pub type Memory = Seq<Object>;
+
+#[cfg(test)]
+mod tests;

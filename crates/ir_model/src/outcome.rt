@@ -42,9 +42,13 @@ impl TryClone for Outcome {
 impl Equal for Outcome {
     fn equal(&self, other: &Self) -> bool {
         match (self, other) {
-            (Outcome::Returned { value, memory }, Outcome::Returned { value: v, memory: m }) => {
-                value.equal(v) && memory.equal(m)
-            }
+            (
+                Outcome::Returned { value, memory },
+                Outcome::Returned {
+                    value: v,
+                    memory: m,
+                },
+            ) => { value.equal(v) && memory.equal(m) }
             (Outcome::Undefined, Outcome::Undefined) => true,
             (Outcome::Cut { memory }, Outcome::Cut { memory: m }) => memory.equal(m),
             _ => false,

@@ -194,7 +194,7 @@ both_stored j low high = record {
   name = j.name;
   ty = Row 2 32;
   op = Store low.align;
-  opds = Lit (record { ty = Row 2 32; lanes = low.lane ∷ high.lane ∷ [] }) ∷ Val low.pointer ∷ []
+  opds = Lit (record { ty = Row 2 32; lanes = low.lane ∷ high.lane ∷ [] }) ∷ Val low.pointer ∷ [];
 }
 
 -- by which of two stores at one parameter is 4 bytes behind the other
@@ -219,16 +219,16 @@ abbrev pub paired_with : Leads → LedStore → List Inst → Option (List Inst)
 paired_with leads a [] = None
 paired_with leads a (j ∷ js) =
     cond (is_memory j.op)
-      (option_map (λ both. both ∷ js) (joined_to leads a j))
-      (option_map (λ rest. j ∷ rest) (paired_with (leads_after leads j) a js))
+    (option_map (λ both. both ∷ js) (joined_to leads a j))
+    (option_map (λ rest. j ∷ rest) (paired_with (leads_after leads j) a js))
 
 -- the instructions with the first pair joined, if there is a pair
 abbrev pub paired : Leads → List Inst → Option (List Inst)
 paired leads [] = None
 paired leads (i ∷ is) =
     option_or
-      (option_and_then (λ a. paired_with leads a is) (led_store_of leads i))
-      (option_map (λ rest. i ∷ rest) (paired (leads_after leads i) is))
+    (option_and_then (λ a. paired_with leads a is) (led_store_of leads i))
+    (option_map (λ rest. i ∷ rest) (paired (leads_after leads i) is))
 
 -- ---- modules
 
@@ -242,8 +242,12 @@ pair_in_blocks params bs = bs
 
 abbrev pub pair_in_func : Func → Func
 pair_in_func f = record {
-  before = f.before; ret = f.ret; name = f.name; params = f.params; after = f.after;
-  blocks = pair_in_blocks f.params f.blocks
+  before = f.before;
+  ret = f.ret;
+  name = f.name;
+  params = f.params;
+  after = f.after;
+  blocks = pair_in_blocks f.params f.blocks;
 }
 
 abbrev pub pair_in_items : List Item → List Item

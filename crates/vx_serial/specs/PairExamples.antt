@@ -32,21 +32,21 @@ pair_of_two_stores = refl
 
 -- a load between
 pub pair_of_load_between :
-  pair_of (module_b (step_inst 1 4 ∷ store_inst 2 7 0 4 ∷ load_inst 5 0 ∷ store_inst 3 8 1 4 ∷ return_inst 4 ∷ []))
-  ≡ module_b (step_inst 1 4 ∷ store_inst 2 7 0 4 ∷ load_inst 5 0 ∷ store_inst 3 8 1 4 ∷ return_inst 4 ∷ [])
+    pair_of (module_b (step_inst 1 4 ∷ store_inst 2 7 0 4 ∷ load_inst 5 0 ∷ store_inst 3 8 1 4 ∷ return_inst 4 ∷ []))
+    ≡ module_b (step_inst 1 4 ∷ store_inst 2 7 0 4 ∷ load_inst 5 0 ∷ store_inst 3 8 1 4 ∷ return_inst 4 ∷ [])
 unfolding int_wrap
 pair_of_load_between = refl
 
 -- the lesser constant comes second: its pointer and align are taken
 pub pair_of_lesser_second :
-  pair_of (module_b (step_inst 1 4 ∷ store_inst 2 7 1 4 ∷ store_inst 3 8 0 8 ∷ return_inst 4 ∷ []))
-  ≡ module_b (step_inst 1 4 ∷ both_inst 3 8 7 0 8 ∷ return_inst 4 ∷ [])
+    pair_of (module_b (step_inst 1 4 ∷ store_inst 2 7 1 4 ∷ store_inst 3 8 0 8 ∷ return_inst 4 ∷ []))
+    ≡ module_b (step_inst 1 4 ∷ both_inst 3 8 7 0 8 ∷ return_inst 4 ∷ [])
 unfolding int_wrap
 pair_of_lesser_second = refl
 
 -- 2^63 - 2 and 2^63 + 2, which as signed constants are not 4 apart
 pub pair_of_overflow :
-  pair_of (module_b (step_inst 1 (2 ^ 63 - 2) ∷ step_inst 5 (2 ^ 63 + 2) ∷ store_inst 2 7 1 4 ∷ store_inst 3 8 5 4 ∷ return_inst 4 ∷ []))
-  ≡ module_b (step_inst 1 (2 ^ 63 - 2) ∷ step_inst 5 (2 ^ 63 + 2) ∷ store_inst 2 7 1 4 ∷ store_inst 3 8 5 4 ∷ return_inst 4 ∷ [])
+    pair_of (module_b (step_inst 1 (2 ^ 63 - 2) ∷ step_inst 5 (2 ^ 63 + 2) ∷ store_inst 2 7 1 4 ∷ store_inst 3 8 5 4 ∷ return_inst 4 ∷ []))
+    ≡ module_b (step_inst 1 (2 ^ 63 - 2) ∷ step_inst 5 (2 ^ 63 + 2) ∷ store_inst 2 7 1 4 ∷ store_inst 3 8 5 4 ∷ return_inst 4 ∷ [])
 unfolding int_wrap
 pair_of_overflow = refl

@@ -7,3 +7,6 @@
 mod pairing;
 
 pub use pairing::pair;
+
+#[cfg(test)]
+mod tests;

@@ -15,7 +15,7 @@ mod scan;
 use forms::is_first_func;
 use ir_types::{Block, Blocks, Func, Inst, Insts, Item, Items, Module, OutOfMemory, Params};
 use leads::Known;
-use scan::{first_pair, Found};
+use scan::{Found, first_pair};
 use std::alloc::Global;
 use vx_list::TryClone;
 

@@ -88,9 +88,13 @@ fn is_statement_of(op: &Op, ty: Ty, opds: &[Opd]) -> bool
 {
     match (op, opds) {
         (Op::Load { .. }, [pointer]) => is_int(32, ty) && is_local(pointer),
-        (Op::Bin { op: BinOp::Add, flags }, [left, right]) => {
-            is_int(32, ty) && is_plain(*flags) && is_operand(left) && is_operand(right)
-        }
+        (
+            Op::Bin {
+                op: BinOp::Add,
+                flags,
+            },
+            [left, right],
+        ) => { is_int(32, ty) && is_plain(*flags) && is_operand(left) && is_operand(right) }
         (Op::Gep { elem, inbounds }, [pointer, index]) => {
             is_ptr(ty) && is_byte(*elem) && !*inbounds && is_local(pointer) && is_literal(64, index)
         }

@@ -10,7 +10,7 @@ ghost use Rattle.vx_serial.specs.PairScan.{leads_in};
 use ir_types::{Id, Inst, Op, Opd, OutOfMemory, Param};
 use std::alloc::Global;
 use std::collections::HashMap;
-use vx_num::{advance, Lane};
+use vx_num::{Lane, advance};
 
 /// What is known of pointers.
 #[derive(Drop)]

@@ -46,7 +46,11 @@ pub struct Found {
 }
 
 /// The first pair, if there is one.
-pub(crate) fn first_pair(alloc: Global, known: &mut Known, insts: &[Inst]) -> Result<Option<Found>, OutOfMemory>
+pub(crate) fn first_pair(
+    alloc: Global,
+    known: &mut Known,
+    insts: &[Inst],
+) -> Result<Option<Found>, OutOfMemory>
     ensures pair { IfOk result (λ found. paired (leads_in known.old.table) insts.now ≡ option_map (with_found insts.now) found) }
     ensures order { IfOk result (λ found. IfSome found (λ f. (f.first < f.second) × (f.second < length insts.now))) }
 {
@@ -74,7 +78,13 @@ fn scanned(alloc: Global, known: &mut Known, insts: &[Inst]) -> Result<Option<Fo
 }
 
 /// The instruction as the second of a pair with the waiting store.
-fn pair_at(alloc: Global, known: &Known, waiting: Option<Waiting>, at: usize, inst: &Inst) -> Result<Option<Found>, OutOfMemory>
+fn pair_at(
+    alloc: Global,
+    known: &Known,
+    waiting: Option<Waiting>,
+    at: usize,
+    inst: &Inst,
+) -> Result<Option<Found>, OutOfMemory>
     ensures { IfOk result (λ found. found ≡ pair_at (leads_in known.now.table) waiting at inst.now) }
 {
     match waiting {
@@ -121,7 +131,12 @@ fn led_store_of(known: &Known, inst: &Inst) -> Option<LedStore>
 {
     match (&inst.op, inst.ty, inst.opds.as_slice()) {
         (Op::Store { align }, Ty::Int(_), [Opd::Lit(literal), Opd::Val(pointer)]) => {
-            led_store(*align, literal.lanes.as_slice(), *pointer, known.lead_of(*pointer))
+            led_store(
+                *align,
+                literal.lanes.as_slice(),
+                *pointer,
+                known.lead_of(*pointer),
+            )
         }
         _ => None,
     }
@@ -143,7 +158,12 @@ fn led_store(align: u64, lanes: &[Lane], pointer: Id, lead: Option<(Id, i64)>) -
 }
 
 /// The store of an earlier store and of an instruction, where they pair.
-fn joined_to(alloc: Global, known: &Known, earlier: LedStore, inst: &Inst) -> Result<Option<Inst>, OutOfMemory>
+fn joined_to(
+    alloc: Global,
+    known: &Known,
+    earlier: LedStore,
+    inst: &Inst,
+) -> Result<Option<Inst>, OutOfMemory>
     ensures { IfOk result (λ both. both ≡ joined_to (leads_in known.now.table) earlier inst.now) }
 {
     match led_store_of(known, inst) {
@@ -204,7 +224,12 @@ fn is_next(low: i64, high: i64) -> bool
 }
 
 /// The store of both, in the place of an instruction.
-fn both_stored(alloc: Global, inst: &Inst, low: LedStore, high: LedStore) -> Result<Inst, OutOfMemory>
+fn both_stored(
+    alloc: Global,
+    inst: &Inst,
+    low: LedStore,
+    high: LedStore,
+) -> Result<Inst, OutOfMemory>
     ensures { IfOk result (λ both. both ≡ both_stored inst.now low high) }
 {
     let mut lanes = Lits::new(alloc);

@@ -7,7 +7,8 @@ use Rattle.vx_serial.proofs.pairing.scan.first_pair.Goals as goal
 pub returns : goal.returns
 returns c = record {
   pair = if_ok_then c.scanned.result
-    (λ found e. scan_pairs (leads_in c.args.known.now.table) c.args.insts.now ∙ ap (option_map (with_found c.args.insts.now)) (sym e)) c.scanned.ensures;
+      (λ found e. scan_pairs (leads_in c.args.known.now.table) c.args.insts.now ∙ ap (option_map (with_found c.args.insts.now)) (sym e)) c.scanned.ensures;
   order = if_ok_then c.scanned.result
-    (λ found e. subst (λ (o : Option Found). IfSome o (λ f. (f.first < f.second) × (f.second < length c.args.insts.now))) (sym e)
-      (scan_orders (leads_in c.args.known.now.table) c.args.insts.now)) c.scanned.ensures }
+      (λ found e. subst (λ (o : Option Found). IfSome o (λ f. (f.first < f.second) × (f.second < length c.args.insts.now))) (sym e)
+      (scan_orders (leads_in c.args.known.now.table) c.args.insts.now)) c.scanned.ensures;
+}
