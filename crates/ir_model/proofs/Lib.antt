@@ -1,0 +1,5 @@
+-- Lemmas on the model that the laws of other crates share.
+pub mod Lists
+pub mod Stores
+pub mod Pointers
+pub mod Same

@@ -1,0 +1,8 @@
+-- What modules mean: values, memories, one step, bounded runs, and when one module may stand for another.
+pub mod Values
+pub mod Memory
+pub mod Step
+pub mod Run
+pub mod Fits
+pub mod Refines
+pub mod Examples

@@ -1,0 +1,2 @@
+-- What laws of packing speak of.
+pub mod Lanes

@@ -1,0 +1,3 @@
+-- Lemmas on what the optimizer writes.
+pub mod Scan
+pub mod Start

@@ -1,0 +1,4 @@
+-- What the optimizer writes.
+pub mod Pair
+pub mod PairScan
+pub mod PairExamples

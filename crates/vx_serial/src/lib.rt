@@ -1,0 +1,12 @@
+//! The stated pass of the optimizer, as a definition and as code that equals it.
+//!
+//! `pair` gives the module that the optimizer writes: two neighbouring stores of one straight-line function become one. Want of
+//! memory is the only failure.
+#![tactic(auto)]
+
+mod pairing;
+
+pub use pairing::pair;
+
+#[cfg(test)]
+mod tests;
