@@ -6,10 +6,11 @@ use Rattle.vx_io.specs.Bytes.{AppendsFront}
 use Rattle.vx_io.specs.Count.{Rose}
 use Rattle.ir_types.specs.declared.module.Module.{Module}
 use Rattle.ir_print.specs.Text.{text_of}
+use Rattle.vec_top.specs.declared.command.Command.{Command}
 use Rattle.vec_top.specs.declared.fault.Fault.{Fault}
 use Rattle.vec_top.specs.declared.fault.Fault.TheVariants.{Line, Word, ReadFault, WriteFault, TooLong, NoMemory}
 use Rattle.vec_top.specs.Reads.{Reads, module_of}
-use Rattle.vec_top.specs.Replies.{Streams, Tells, IsTold, OnlyTells, ReadsAll, Done, Refused, BadWord, ReadFailed, WriteFailed, PassesLimit, Starved, Replies, Makes, told}
+use Rattle.vec_top.specs.Replies.{Streams, Tells, IsTold, OnlyTells, ReadsAll, Done, Refused, BadWord, ReadFailed, WriteFailed, PassesLimit, Starved, Replies, Makes, MakesBy, command_in, told, worked, KeepsMeaning}
 use Rattle.vec_top.proofs.Agree.{module_reads, refused_reads}
 
 keeps_same : (o : Option (List ℕ)) → Keeps o o
@@ -35,51 +36,66 @@ module _ (ws : List (List ℕ)) (l l' : Option (List ℕ)) (b n : ℕ) (o : Opti
   starved : n ≡ b → Tells e e' ef ef' (told NoMemory) → Replies ws quiet (Some NoMemory)
   starved same t = record { read_faults = same; tells = only NoMemory t }
 
-  pub from_fault : (f g : Fault) → Makes ws l l' b n (Err f) → IsTold f g → Tells e e' ef ef' (told g) → Replies ws quiet (Some g)
-  from_fault (Line k) g (hold, ends, same, within, fault) (inl p) t =
+  bad_word : (k : ℕ) (g : Fault) → command_in ws ≡ Err k → Keeps l l' → n ≡ b → IsTold (Word k) g → Tells e e' ef ef' (told g) → Replies ws quiet (Some g)
+  bad_word k g says unread same (inl p) t = as_told (Word k) g p t (λ u. record { word = says; unread = unread; read_faults = same; tells = only (Word k) u })
+  bad_word k g says unread same (inr p) t = as_told NoMemory g p t (starved same)
+
+  by_command : (r : Result Command ℕ) → command_in ws ≡ r → (f g : Fault) → MakesBy r l l' b n (Err f) → IsTold f g → Tells e e' ef ef' (told g) → Replies ws quiet (Some g)
+  by_command (Err k) says f g (made, unread, same) p t =
+      let is : f ≡ Word k = cc in
+      let P : Fault → Type 0 = λ h. IsTold h g → Replies ws quiet (Some g) in subst P (sym is) (λ q. bad_word k g says unread same q t) p
+  by_command (Ok c) says (Line k) g (ends, same, within, fault) (inl p) t =
       as_told (Line k) g p t (λ u. record {
-        reads_all = record { words_hold = hold; ends = ends; read_faults = same; within = within };
+        reads_all = record { command = c; says = says; ends = ends; read_faults = same; within = within };
         first_fault = fault;
         no_module = if_some (λ bytes. module_of bytes ≡ Err k) (λ bytes. (m : Module) → Reads bytes m → ⊥) l (λ bytes e'. refused_reads bytes k e') fault;
         tells = only (Line k) u;
       })
-  from_fault (Line k) g (hold, ends, same, within, fault) (inr p) t = as_told NoMemory g p t (starved same)
-  from_fault (Word k) g (word, unread, same) (inl p) t = as_told (Word k) g p t (λ u. record { word = word; unread = unread; read_faults = same; tells = only (Word k) u })
-  from_fault (Word k) g (word, unread, same) (inr p) t = as_told NoMemory g p t (starved same)
-  from_fault ReadFault g (hold, rose) p t = as_told ReadFault g p t (λ u. record { words_hold = hold; rose = rose; tells = only ReadFault u })
-  from_fault WriteFault g never p t = absurd never
-  from_fault TooLong g (hold, same, long) p t = as_told TooLong g p t (λ u. record { words_hold = hold; read_faults = same; long = long; tells = only TooLong u })
-  from_fault NoMemory g same p t = as_told NoMemory g p t (starved same)
+  by_command (Ok c) says (Line k) g (ends, same, within, fault) (inr p) t = as_told NoMemory g p t (starved same)
+  by_command (Ok c) says (Word k) g never p t = absurd never
+  by_command (Ok c) says ReadFault g rose p t = as_told ReadFault g p t (λ u. record { command = c; says = says; rose = rose; tells = only ReadFault u })
+  by_command (Ok c) says WriteFault g never p t = absurd never
+  by_command (Ok c) says TooLong g (same, long) p t = as_told TooLong g p t (λ u. record { command = c; says = says; read_faults = same; long = long; tells = only TooLong u })
+  by_command (Ok c) says NoMemory g same p t = as_told NoMemory g p t (starved same)
+
+  pub from_fault : (f g : Fault) → Makes ws l l' b n (Err f) → IsTold f g → Tells e e' ef ef' (told g) → Replies ws quiet (Some g)
+  from_fault f g made p t = by_command (command_in ws) refl f g made p t
 
 module _ (ws : List (List ℕ)) (l l' : Option (List ℕ)) (b n : ℕ) (o o' : Option (List ℕ)) (of' of'' : ℕ) (room : Option ℕ) (e e' : Option (List ℕ)) (ef ef' : ℕ) (text : Vec ℕ Global) where
   -- the streams where a text was written
   abbrev written : Streams
   written = record { left = l; left_after = l'; read_faults = b; read_faults_after = n; out = o; out_after = o'; out_faults = of'; out_faults_after = of''; room = room; err = e; err_after = e'; err_faults = ef; err_faults_after = ef' }
 
-  reads_all : Makes ws l l' b n (Ok text) → ReadsAll ws written
-  reads_all (hold, ends, same, within, made) = record { words_hold = hold; ends = ends; read_faults = same; within = within }
+  -- the text that a command makes of the bytes that were left
+  abbrev Made : Command → List ℕ → Type 0
+  Made c bytes = (m : Module) × (module_of bytes ≡ Ok m) × (text.items ≡ text_of (worked c m)) × KeepsMeaning c m
 
-  pub from_whole : Makes ws l l' b n (Ok text) → Appends o o' text.items → of'' ≡ of' → e' ≡ e → ef' ≡ ef → Done ws written
-  from_whole made appended quiet_out same_err same_faults = record {
-    reads_all = reads_all made;
-    printed = if_some (λ bytes. (m : Module) × (module_of bytes ≡ Ok m) × (text.items ≡ text_of m)) (λ bytes. (m : Module) × Reads bytes m × Appends o o' (text_of m)) l (λ bytes x. (x.0, module_reads bytes x.0 x.1, subst (λ t. Appends o o' t) x.2 appended)) made.4;
+  whole_by : (r : Result Command ℕ) → command_in ws ≡ r → MakesBy r l l' b n (Ok text) → Appends o o' text.items → of'' ≡ of' → e' ≡ e → ef' ≡ ef → Done ws written
+  whole_by (Err k) says (made, unread, same) appended quiet_out same_err same_faults = cc
+  whole_by (Ok c) says (ends, same, within, made) appended quiet_out same_err same_faults = record {
+    reads_all = record { command = c; says = says; ends = ends; read_faults = same; within = within };
+    printed = if_some (Made c) (λ bytes. (m : Module) × Reads bytes m × Appends o o' (text_of (worked c m)) × KeepsMeaning c m) l (λ bytes x. (x.0, module_reads bytes x.0 x.1, subst (λ t. Appends o o' t) x.2 appended, x.3)) made;
     out_faults = quiet_out;
     err = subst (λ s. Keeps e s) (sym same_err) (keeps_same e);
     err_faults = same_faults;
   }
 
-  pub from_front : Makes ws l l' b n (Ok text) → AppendsFront o o' text.items → Rose of' of'' → IfSome room (λ k. k < length text.items) → Tells e e' ef ef' (told WriteFault) → WriteFailed ws written
-  from_front made front rose sure t = record {
-    reads_all = reads_all made;
-    front = if_some (λ bytes. (m : Module) × (module_of bytes ≡ Ok m) × (text.items ≡ text_of m)) (λ bytes. (m : Module) × Reads bytes m × AppendsFront o o' (text_of m) × IfSome room (λ k. k < length (text_of m))) l
-        (λ bytes x. (x.0, module_reads bytes x.0 x.1, subst (λ u. AppendsFront o o' u) x.2 front, subst (λ u. IfSome room (λ k. k < length u)) x.2 sure)) made.4;
+  pub from_whole : Makes ws l l' b n (Ok text) → Appends o o' text.items → of'' ≡ of' → e' ≡ e → ef' ≡ ef → Done ws written
+  from_whole = whole_by (command_in ws) refl
+
+  front_by : (r : Result Command ℕ) → command_in ws ≡ r → MakesBy r l l' b n (Ok text) → AppendsFront o o' text.items → Rose of' of'' → IfSome room (λ k. k < length text.items) → Tells e e' ef ef' (told WriteFault) → WriteFailed ws written
+  front_by (Err k) says (made, unread, same) front rose sure t = cc
+  front_by (Ok c) says (ends, same, within, made) front rose sure t = record {
+    reads_all = record { command = c; says = says; ends = ends; read_faults = same; within = within };
+    front = if_some (Made c) (λ bytes. (m : Module) × Reads bytes m × AppendsFront o o' (text_of (worked c m)) × IfSome room (λ k. k < length (text_of (worked c m)))) l
+        (λ bytes x. (x.0, module_reads bytes x.0 x.1, subst (λ u. AppendsFront o o' u) x.2 front, subst (λ u. IfSome room (λ k. k < length u)) x.2 sure)) made;
     rose = rose;
     err = t;
   }
 
   pub from_failed : (g : Fault) → g ≡ WriteFault → Makes ws l l' b n (Ok text) → AppendsFront o o' text.items → Rose of' of'' → IfSome room (λ k. k < length text.items) → Tells e e' ef ef' (told g) → Replies ws written (Some g)
   from_failed g same made front rose sure t =
-      let P : Fault → Type 0 = λ h. Tells e e' ef ef' (told h) → Replies ws written (Some h) in subst P (sym same) (from_front made front rose sure) t
+      let P : Fault → Type 0 = λ h. Tells e e' ef ef' (told h) → Replies ws written (Some h) in subst P (sym same) (front_by (command_in ws) refl made front rose sure) t
 
 -- a write that failed was not sure of room
 pub not_sure : (room : Option ℕ) (xs : List ℕ) → IfSome room (λ k. length xs ≤ k → false ≡ true) → IfSome room (λ k. k < length xs)

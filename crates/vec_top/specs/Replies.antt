@@ -9,20 +9,35 @@ use Rattle.vx_io.specs.Count.{Rose}
 use Rattle.ir_types.specs.declared.module.Module.{Module}
 use Rattle.ir_print.specs.Text.{text_of}
 use Rattle.vec_top.specs.Reads.{Reads, module_of}
+use Rattle.ir_model.specs.Refines.{ModuleRefines}
+use Rattle.vx_serial.specs.Pair.{pair_of}
+use Rattle.vec_top.specs.declared.command.Command.{Command}
+use Rattle.vec_top.specs.declared.command.Command.TheVariants.{Print, Opt}
 use Rattle.vec_top.specs.declared.fault.Fault.{Fault}
 use Rattle.vec_top.specs.declared.fault.Fault.TheVariants.{Line, Word, ReadFault, WriteFault, TooLong, NoMemory}
 
 -- words
 
--- the first word that cannot stand after `print`: none may
-abbrev pub after_print : List (List ℕ) → Option ℕ
-after_print [] = None
-after_print (w ∷ ws) = Some 1
+-- what a command makes of a module: `print` leaves it, `opt` joins two neighbouring stores
+abbrev pub worked : Command → Module → Module
+worked Print m = m
+worked Opt m = pair_of m
 
--- the place, from 0, of the first word that cannot stand, or the number of words where one is missing; `print` alone holds
-abbrev pub fault_word : List (List ℕ) → Option ℕ
-fault_word [] = Some 0
-fault_word (w ∷ ws) = cond (bytes_eq w (codes "print")) (after_print ws) (Some 0)
+-- what `opt` makes of it may stand for it, for every function, all fitting arguments and memories and every bound
+abbrev pub KeepsMeaning : Command → Module → Type 0
+KeepsMeaning Print m = Unit {0}
+KeepsMeaning Opt m = ModuleRefines (pair_of m) m
+
+-- a command with no word behind it
+abbrev pub alone : Command → List (List ℕ) → Result Command ℕ
+alone c [] = Ok c
+alone c (w ∷ ws) = Err 1
+
+-- the command that the words are, or the place, from 0, of the first word that cannot stand, or the number of words where one is
+-- missing; `print` alone and `opt` alone hold
+abbrev pub command_in : List (List ℕ) → Result Command ℕ
+command_in [] = Err 0
+command_in (w ∷ ws) = cond (bytes_eq w (codes "print")) (alone Print ws) (cond (bytes_eq w (codes "opt")) (alone Opt ws) (Err 0))
 
 -- faults
 
@@ -89,15 +104,16 @@ pub record OnlyTells (s : Streams) (f : Fault) : Type 0 where
 
 -- the words held and the input was read to its end, within the limit and without a fault
 pub record ReadsAll (words : List (List ℕ)) (s : Streams) : Type 0 where
-  pub words_hold : fault_word words ≡ None
+  pub command : Command
+  pub says : command_in words ≡ Ok command
   pub ends : IsAtEnd s.left_after
   pub read_faults : s.read_faults_after ≡ s.read_faults
   pub within : IfSome s.left (λ bytes. length bytes ≤ byte_limit)
 
--- all was done: `out` took the text of the module that the input is, and `err` nothing
+-- all was done: `out` took the text of what the command makes of the module that the input is, and `err` nothing
 pub record Done (words : List (List ℕ)) (s : Streams) : Type 0 where
   pub reads_all : ReadsAll words s
-  pub printed : IfSome s.left (λ bytes. (m : Module) × Reads bytes m × Appends s.out s.out_after (text_of m))
+  pub printed : IfSome s.left (λ bytes. (m : Module) × Reads bytes m × Appends s.out s.out_after (text_of (worked reads_all.command m)) × KeepsMeaning reads_all.command m)
   pub out_faults : s.out_faults_after ≡ s.out_faults
   pub err : Keeps s.err s.err_after
   pub err_faults : s.err_faults_after ≡ s.err_faults
@@ -111,27 +127,29 @@ pub record Refused (words : List (List ℕ)) (s : Streams) (n : ℕ) : Type 0 wh
 
 -- the word at k cannot stand, and nothing was read
 pub record BadWord (words : List (List ℕ)) (s : Streams) (k : ℕ) : Type 0 where
-  pub word : fault_word words ≡ Some k
+  pub word : command_in words ≡ Err k
   pub unread : Keeps s.left s.left_after
   pub read_faults : s.read_faults_after ≡ s.read_faults
   pub tells : OnlyTells s (Word k)
 
 -- a read failed
 pub record ReadFailed (words : List (List ℕ)) (s : Streams) : Type 0 where
-  pub words_hold : fault_word words ≡ None
+  pub command : Command
+  pub says : command_in words ≡ Ok command
   pub rose : Rose s.read_faults s.read_faults_after
   pub tells : OnlyTells s ReadFault
 
 -- a write failed: `out` took a front of the text, for it was not sure of room for all
 pub record WriteFailed (words : List (List ℕ)) (s : Streams) : Type 0 where
   pub reads_all : ReadsAll words s
-  pub front : IfSome s.left (λ bytes. (m : Module) × Reads bytes m × AppendsFront s.out s.out_after (text_of m) × IfSome s.room (λ k. k < length (text_of m)))
+  pub front : IfSome s.left (λ bytes. (m : Module) × Reads bytes m × AppendsFront s.out s.out_after (text_of (worked reads_all.command m)) × IfSome s.room (λ k. k < length (text_of (worked reads_all.command m))))
   pub rose : Rose s.out_faults s.out_faults_after
   pub err : Tells s.err s.err_after s.err_faults s.err_faults_after (told WriteFault)
 
 -- more bytes came than the limit
 pub record PassesLimit (words : List (List ℕ)) (s : Streams) : Type 0 where
-  pub words_hold : fault_word words ≡ None
+  pub command : Command
+  pub says : command_in words ≡ Ok command
   pub read_faults : s.read_faults_after ≡ s.read_faults
   pub long : IfSome s.left (λ bytes. byte_limit < length bytes)
   pub tells : OnlyTells s TooLong
@@ -157,21 +175,35 @@ exit_status None = 0
 exit_status (Some f) = status_of f
 
 -- what some bytes are printed as, or why they are not
-abbrev pub TextFor : List ℕ → Result (Vec ℕ Global) Fault → Type 0
-TextFor bytes (Ok text) = (m : Module) × (module_of bytes ≡ Ok m) × (text.items ≡ text_of m)
-TextFor bytes (Err (Line n)) = module_of bytes ≡ Err n
-TextFor bytes (Err NoMemory) = Unit {0}
-TextFor bytes (Err _) = ⊥
+abbrev pub TextFor : Command → List ℕ → Result (Vec ℕ Global) Fault → Type 0
+TextFor c bytes (Ok text) = (m : Module) × (module_of bytes ≡ Ok m) × (text.items ≡ text_of (worked c m)) × KeepsMeaning c m
+TextFor c bytes (Err (Line n)) = module_of bytes ≡ Err n
+TextFor c bytes (Err NoMemory) = Unit {0}
+TextFor c bytes (Err _) = ⊥
 
--- what the words and the input come to, before anything is written
+-- the same of a module that was read
+abbrev pub TextOf : Command → Module → Result (Vec ℕ Global) Fault → Type 0
+TextOf c m (Ok text) = (text.items ≡ text_of (worked c m)) × KeepsMeaning c m
+TextOf c m (Err NoMemory) = Unit {0}
+TextOf c m (Err _) = ⊥
+
+-- what a command and the input come to, before anything is written
+abbrev pub MakesFor : Command → Option (List ℕ) → Option (List ℕ) → ℕ → ℕ → Result (Vec ℕ Global) Fault → Type 0
+MakesFor c left after before now (Ok text) =
+    IsAtEnd after × (now ≡ before) × IfSome left (λ bytes. length bytes ≤ byte_limit)
+    × IfSome left (λ bytes. (m : Module) × (module_of bytes ≡ Ok m) × (text.items ≡ text_of (worked c m)) × KeepsMeaning c m)
+MakesFor c left after before now (Err (Line n)) =
+    IsAtEnd after × (now ≡ before) × IfSome left (λ bytes. length bytes ≤ byte_limit) × IfSome left (λ bytes. module_of bytes ≡ Err n)
+MakesFor c left after before now (Err (Word k)) = ⊥
+MakesFor c left after before now (Err ReadFault) = Rose before now
+MakesFor c left after before now (Err WriteFault) = ⊥
+MakesFor c left after before now (Err TooLong) = (now ≡ before) × IfSome left (λ bytes. byte_limit < length bytes)
+MakesFor c left after before now (Err NoMemory) = now ≡ before
+
+-- what the words and the input come to
+abbrev pub MakesBy : Result Command ℕ → Option (List ℕ) → Option (List ℕ) → ℕ → ℕ → Result (Vec ℕ Global) Fault → Type 0
+MakesBy (Ok c) left after before now made = MakesFor c left after before now made
+MakesBy (Err k) left after before now made = (made ≡ Err (Word k)) × Keeps left after × (now ≡ before)
 
 abbrev pub Makes : List (List ℕ) → Option (List ℕ) → Option (List ℕ) → ℕ → ℕ → Result (Vec ℕ Global) Fault → Type 0
-Makes words left after before now (Ok text) =
-    (fault_word words ≡ None) × IsAtEnd after × (now ≡ before) × IfSome left (λ bytes. length bytes ≤ byte_limit) × IfSome left (λ bytes. (m : Module) × (module_of bytes ≡ Ok m) × (text.items ≡ text_of m))
-Makes words left after before now (Err (Line n)) =
-    (fault_word words ≡ None) × IsAtEnd after × (now ≡ before) × IfSome left (λ bytes. length bytes ≤ byte_limit) × IfSome left (λ bytes. module_of bytes ≡ Err n)
-Makes words left after before now (Err (Word k)) = (fault_word words ≡ Some k) × Keeps left after × (now ≡ before)
-Makes words left after before now (Err ReadFault) = (fault_word words ≡ None) × Rose before now
-Makes words left after before now (Err WriteFault) = ⊥
-Makes words left after before now (Err TooLong) = (fault_word words ≡ None) × (now ≡ before) × IfSome left (λ bytes. byte_limit < length bytes)
-Makes words left after before now (Err NoMemory) = now ≡ before
+Makes words left after before now made = MakesBy (command_in words) left after before now made

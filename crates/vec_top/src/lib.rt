@@ -4,6 +4,7 @@
 //! promises at each status stands in its clauses, whose words are in `specs/Replies` and `specs/Reads`.
 #![tactic(auto)]
 
+mod command;
 mod fault;
 mod first_forms;
 mod lines;

@@ -12,6 +12,9 @@ const PLAIN: &[u8] =
 const PRINTED: &[u8] =
     b"define void @a(ptr %p, ptr %q) {\n  %x = load i32, ptr %p, align 1\n  %y = add i32 %x, -1\n  store i32 %y, ptr %q, align 4\n  ret void\n}\n";
 
+const LOAD_BETWEEN: &[u8] =
+    b"define void @b(ptr %p) {\n  %q = getelementptr i8, ptr %p, i64 4\n  store i32 7, ptr %p, align 4\n  %x = load i32, ptr %p, align 4\n  store i32 8, ptr %q, align 4\n  ret void\n}\n";
+
 /// A row: the words, the input, the status, and what `out` and `err` take.
 #[derive(Clone, Copy)]
 struct Row {
@@ -146,11 +149,39 @@ fn rows_are_answered(rt: HostRuntime) -> Result<(), Fail> {
             err: b"sandvec: words: 0\n",
         },
         Row {
-            words: &["opt"],
+            words: &["run"],
             input: PLAIN,
             status: 2,
             out: b"",
             err: b"sandvec: words: 0\n",
+        },
+        Row {
+            words: &["opt"],
+            input: b"",
+            status: 0,
+            out: b"",
+            err: b"",
+        },
+        Row {
+            words: &["opt"],
+            input: b"define void @b(ptr %p) {\n  %q = getelementptr i8, ptr %p, i64 4\n  store i32 7, ptr %p, align 4\n  store i32 8, ptr %q, align 4\n  ret void\n}\n",
+            status: 0,
+            out: b"define void @b(ptr %p) {\n  %q = getelementptr i8, ptr %p, i64 4\n  store <2 x i32> <i32 7, i32 8>, ptr %p, align 4\n  ret void\n}\n",
+            err: b"",
+        },
+        Row {
+            words: &["opt"],
+            input: LOAD_BETWEEN,
+            status: 0,
+            out: LOAD_BETWEEN,
+            err: b"",
+        },
+        Row {
+            words: &["opt", "-j"],
+            input: PLAIN,
+            status: 2,
+            out: b"",
+            err: b"sandvec: words: 1\n",
         },
         Row {
             words: &["print", "print"],

@@ -3,63 +3,55 @@
 //! `sandvec_alone` is the entry point. Each step answers a `Fault` where it ends the command; texts are made before the first byte
 //! is written.
 
-ghost use Rattle.std.specs.Prelude.{◌≡◌, ◌+◌, ◌^◌, ◌<◌, ◌⊎◌, Option, codes, length, map, string_bytes};
-ghost use Rattle.std.specs.Str.{bytes_eq};
+ghost use Rattle.std.specs.Prelude.{◌≡◌, ◌+◌, ◌^◌, ◌<◌, ◌⊎◌, Option, length, map, string_bytes};
 ghost use Rattle.vec_top.specs.Replies as replies;
 ghost use Rattle.vec_top.specs.declared.fault.Fault.{Fault};
 
+use crate::command::{Command, command_of};
 use crate::fault::{Fault, line_of};
 use crate::first_forms::{TextRefusal, module_of};
 use ir_print::print;
+use ir_types::Module;
+use rf_pack::pair_refines;
 use std::alloc::Global;
 use vx_io::{ReadRefusal, Sink, Source, WriteFault, read_all, write_all};
+use vx_serial::pair;
 
 /// The most bytes of an input.
 const BYTE_LIMIT: u64 = 16_777_216;
 
-/// The place, from 0, of the first word that cannot stand, or the number of words where one is missing.
-fn fault_word(words: &[String]) -> Option<u64>
-    ensures { result ≡ replies.fault_word (map string_bytes words.now) }
+/// The text of a module that was read, as a command makes it.
+fn text_of(alloc: Global, command: Command, module: &Module) -> Result<Vec<u8>, Fault>
+    ensures { replies.TextOf command module.now result }
 {
-    match words {
-        [] => Some(0),
-        [first, rest @ ..] => {
-            if is_print(first.as_bytes()) {
-                after_print(rest)
-            } else {
-                Some(0)
-            }
-        }
+    match command {
+        Command::Print => print(alloc, module).map_err(|_| Fault::NoMemory),
+        Command::Opt => optimized(alloc, module),
     }
 }
 
-fn is_print(word: &[u8]) -> bool
-    ensures { result ≡ bytes_eq word.now (codes "print") }
+fn optimized(alloc: Global, module: &Module) -> Result<Vec<u8>, Fault>
+    ensures { replies.TextOf Command.Opt module.now result }
 {
-    word == b"print".as_slice()
-}
-
-fn after_print(words: &[String]) -> Option<u64>
-    ensures { result ≡ replies.after_print (map string_bytes words.now) }
-{
-    match words {
-        [] => None,
-        _ => Some(1),
+    pair_refines();
+    match pair(alloc, module) {
+        Ok(new) => match print(alloc, &new) {
+            Ok(text) => Ok(text),
+            Err(_) => Err(Fault::NoMemory),
+        },
+        Err(_) => Err(Fault::NoMemory),
     }
 }
 
-/// The text that some bytes are printed as.
-fn text_for(alloc: Global, bytes: &[u8]) -> Result<Vec<u8>, Fault>
+/// The text to write for some bytes.
+fn text_for(alloc: Global, command: Command, bytes: &[u8]) -> Result<Vec<u8>, Fault>
     requires { length bytes.now + 1 < 2 ^ 32 }
-    ensures { replies.TextFor bytes.now result }
+    ensures { replies.TextFor command bytes.now result }
 {
     match module_of(alloc, bytes) {
         Err(TextRefusal::CannotStand { line }) => Err(Fault::Line(line)),
         Err(TextRefusal::OutOfMemory) => Err(Fault::NoMemory),
-        Ok(module) => match print(alloc, &module) {
-            Ok(text) => Ok(text),
-            Err(_) => Err(Fault::NoMemory),
-        },
+        Ok(module) => text_of(alloc, command, &module),
     }
 }
 
@@ -67,11 +59,18 @@ fn text_for(alloc: Global, bytes: &[u8]) -> Result<Vec<u8>, Fault>
 fn make<S: Source>(alloc: Global, words: &[String], input: &mut S) -> Result<Vec<u8>, Fault>
     ensures { replies.Makes (map string_bytes words.now) (S.left input.old) (S.left input.new) (S.faults input.old) (S.faults input.new) result }
 {
-    if let Some(place) = fault_word(words) {
-        return Err(Fault::Word(place));
+    match command_of(words) {
+        Err(place) => Err(Fault::Word(place)),
+        Ok(command) => make_for(alloc, command, input),
     }
+}
+
+/// The text to write, from the input.
+fn make_for<S: Source>(alloc: Global, command: Command, input: &mut S) -> Result<Vec<u8>, Fault>
+    ensures { replies.MakesFor command (S.left input.old) (S.left input.new) (S.faults input.old) (S.faults input.new) result }
+{
     match read_all(alloc, input, BYTE_LIMIT) {
-        Ok(bytes) => text_for(alloc, bytes.as_slice()),
+        Ok(bytes) => text_for(alloc, command, bytes.as_slice()),
         Err(ReadRefusal::ReadFault) => Err(Fault::ReadFault),
         Err(ReadRefusal::TooLong) => Err(Fault::TooLong),
         Err(ReadRefusal::OutOfMemory) => Err(Fault::NoMemory),
@@ -164,8 +163,8 @@ fn reply<S: Source, O: Sink, E: Sink>(
 
 /// The program: words, standard input, standard output, standard error, and the exit status.
 ///
-/// The one command is `print`. Status 0: the input is a module of the first forms, and `out` took its text. 1: it is none. 2: the
-/// words are not the one word `print`. 3: a read failed. 4: a write failed. 5: the input has more than 16,777,216 bytes. 6: want of
+/// The commands are `print` and `opt`. Status 0: the input is a module of the first forms, and `out` took its text, or that of the
+/// module that `opt` makes of it, which refines it. 1: it is none. 2: the words are neither command alone. 3: a read failed. 4: a write failed. 5: the input has more than 16,777,216 bytes. 6: want of
 /// memory. It always returns.
 pub fn sandvec_alone<S: Source, O: Sink, E: Sink>(
     alloc: Global,
