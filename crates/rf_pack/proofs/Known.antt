@@ -1,5 +1,5 @@
 -- What is known of pointers: where an id leads, its value is the parameter's pointer moved by the constant.
-use Rattle.std.proofs.Common.{◌≡◌, refl, sym, ap, ◌∙◌, subst, ℕ, ℤ, pos, ◌+ℤ◌, ◌*ℤ◌, Bool, true, false, Option, None, Some, List, [], ◌∷◌, cond, FitsSigned}
+use Rattle.std.proofs.Common.{◌≡◌, refl, sym, ap, ◌∙◌, ℕ, pos, ◌*ℤ◌, Bool, true, false, None, Some, List, [], ◌∷◌, cond}
 use Rattle.std.specs.List.{AllZip}
 use Rattle.std.specs.Int.{w64, int_wrap}
 use Rattle.std.proofs.lemmas.Int.{int_wrap_fits}
@@ -12,10 +12,10 @@ use Rattle.ir_types.specs.declared.ty.Ty.TheVariants.{Void, Int, Ptr, Row}
 use Rattle.ir_types.specs.declared.func.Param.{Param}
 use Rattle.ir_model.specs.declared.value.Value.{Value}
 use Rattle.ir_model.specs.declared.value.Value.TheVariants.{Lane as LaneValue, Row as RowValue, Ptr as PtrValue}
-use Rattle.ir_model.specs.Values.{Lane, Pointer, Env, pointer_of, moved, same_id, with_value}
+use Rattle.ir_model.specs.Values.{Pointer, Env, pointer_of, moved, same_id, with_value}
 use Rattle.ir_model.specs.Step.{stepped}
 use Rattle.ir_model.specs.Run.{start_env}
-use Rattle.ir_model.specs.Fits.{ValueFits, PointerFits}
+use Rattle.ir_model.specs.Fits.{ValueFits}
 use Rattle.ir_model.proofs.Pointers.{moved-moved}
 use Rattle.vx_serial.specs.Pair.{Lead, Leads, leads_at_start, set_lead, lead_on}
 use Rattle.rf_pack.specs.Lanes.{OffsetFits}

@@ -1,5 +1,5 @@
 -- Two stores of 32 bits, 4 bytes apart, are one store of the pair with the pointer and the align of the lower one.
-use Rattle.std.proofs.Common.{◌≡◌, refl, sym, ap, ◌∙◌, subst, ℕ, ℤ, pos, ◌+ℤ◌, ◌+◌, ◌≤◌, ◌<◌, ◌^◌, Option, None, Some, List, [], ◌∷◌, length, option_and_then, FitsSigned, arith}
+use Rattle.std.proofs.Common.{◌≡◌, refl, sym, ap, ◌∙◌, subst, ℕ, ℤ, pos, ◌+ℤ◌, ◌+◌, ◌≤◌, ◌<◌, ◌^◌, None, Some, [], ◌∷◌, length, option_and_then, FitsSigned, arith}
 use Rattle.std.specs.Int.{w64, int_wrap}
 use Rattle.std.proofs.lemmas.Int.{SFits-int_wrap, int_wrap-add_left, ints}
 use Rattle.std.proofs.Math.IntN.{+ℤ_assoc}
@@ -8,7 +8,7 @@ use Rattle.ir_model.specs.Memory.{Memory, lane_bytes, row_bytes, stored}
 use Rattle.ir_model.proofs.Lists.{length-lane_bytes}
 use Rattle.ir_model.proofs.Stores.{IsStored, stored-is, is-stored}
 use Rattle.ir_model.proofs.Pointers.{next_place}
-use Rattle.rf_pack.specs.Lanes.{OffsetFits, LaneStore, lanes_of}
+use Rattle.rf_pack.specs.Lanes.{OffsetFits, LaneStore}
 use Rattle.rf_pack.proofs.Rows.{stored_each, row_stands, IsSwapped, swapped}
 
 pub moved-plus : (p : Pointer) (a b : ℤ) → moved (moved p a) b ≡ moved p (a +ℤ b)

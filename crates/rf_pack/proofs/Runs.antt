@@ -4,20 +4,18 @@ use Rattle.std.specs.Option.{option_or}
 use Rattle.std.proofs.lemmas.Bool.Decides.{nat_tests, Decides-int_eq}
 use Rattle.ir_types.specs.declared.id.Id.{Id}
 use Rattle.ir_types.specs.declared.ty.Ty.{Ty}
-use Rattle.ir_types.specs.declared.opd.Opd.{Opd}
-use Rattle.ir_types.specs.declared.op.Op.{Op}
 use Rattle.ir_types.specs.declared.inst.Inst.{Inst}
 use Rattle.ir_model.specs.declared.value.Value.{Value}
-use Rattle.ir_model.specs.Values.{Lane, Env, Pointer, pointer_of, moved, same_id, with_value, value_of, type_of}
+use Rattle.ir_model.specs.Values.{Lane, Env, pointer_of, moved, same_id, with_value, value_of, type_of}
 use Rattle.ir_model.specs.Memory.{Memory, lane_bytes, row_bytes, stored}
-use Rattle.ir_model.specs.Step.{State, Effect, memory_effect, value_effect, result_of, after_effect, step_of}
-use Rattle.ir_model.specs.Run.{Ended, Stops, Returns, Goes, is_terminator, is_phi, then_ends, run_insts}
+use Rattle.ir_model.specs.Step.{State, memory_effect, value_effect, result_of, after_effect, step_of}
+use Rattle.ir_model.specs.Run.{Ended, Stops, is_terminator, then_ends, run_insts}
 use Rattle.vx_serial.specs.declared.pairing.scan.LedStore.{LedStore}
 use Rattle.vx_serial.specs.Pair.{is_statement_of, is_straight, is_memory, Lead, Leads, leads_after, led_store_of, both_stored, joined_by_distance, is_lead, joined, joined_to, paired_with, paired}
 use Rattle.rf_pack.proofs.Known.{LeadHolds, Known}
 use Rattle.rf_pack.proofs.Statements.{effect_in, both_true, true_of, Plain, IsLed, led-is, quiet}
 use Rattle.rf_pack.proofs.Mates.{lower_first, lower_second}
-use Rattle.rf_pack.proofs.Straight.{StraightFrom, Last, More, straight_from, plain_of, IsReturn, return-is, run_statement, HasNoPhi, straight_no_phi}
+use Rattle.rf_pack.proofs.Straight.{StraightFrom, Last, More, straight_from, plain_of, return-is, run_statement, HasNoPhi, straight_no_phi}
 
 -- the old end is in undefined behaviour, or both are the same
 abbrev pub EndsBetter : Ended → Ended → Type 0

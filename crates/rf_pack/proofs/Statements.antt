@@ -1,7 +1,7 @@
 -- Statements of the first forms: how they step, and what they keep.
-use Rattle.std.proofs.Common.{◌≡◌, refl, sym, ap, ◌∙◌, subst, ℕ, ℤ, Bool, true, false, not, ◌&&◌, Option, None, Some, List, [], ◌∷◌, map, cond, nat_eq, option_map, arith}
+use Rattle.std.proofs.Common.{◌≡◌, refl, sym, subst, ℕ, Bool, true, false, not, ◌&&◌, Option, None, Some, List, [], ◌∷◌, map, nat_eq, arith}
 use Rattle.std.proofs.lemmas.Bool.Decides.{nat_tests}
-use Rattle.vx_num.specs.declared.operations.BinOp.TheVariants.{Add, Sub, Mul, Shl, Udiv, Sdiv, Urem, Srem, Lshr, Ashr, And, Or, Xor}
+use Rattle.vx_num.specs.declared.operations.BinOp.TheVariants.{Add}
 use Rattle.vx_num.specs.declared.operations.Flags.{Flags}
 use Rattle.ir_types.specs.declared.id.Id.{Id}
 use Rattle.ir_types.specs.declared.ty.Elem.{Elem}
@@ -13,16 +13,15 @@ use Rattle.ir_types.specs.declared.literal.Literal.{Literal}
 use Rattle.ir_types.specs.declared.opd.Opd.{Opd}
 use Rattle.ir_types.specs.declared.opd.Opd.TheVariants.{Val, Lit, Sym}
 use Rattle.ir_types.specs.declared.op.Op.{Op}
-use Rattle.ir_types.specs.declared.op.Op.TheVariants.{Bin, Icmp, Cast, Select, Extract, Insert, Shuffle, Gep, Load, Store, Alloca, Phi, Ret, Br, CondBr, Switch, Unreachable, Call}
-use Rattle.ir_types.specs.declared.inst.Inst.{Inst}
+use Rattle.ir_types.specs.declared.op.Op.TheVariants.{Bin, Gep, Load, Store}
 use Rattle.ir_model.specs.declared.value.Value.{Value}
 use Rattle.ir_model.specs.Values.{Lane, Env, Pointer, pointer_of, with_value, value_of, type_of}
 use Rattle.ir_model.specs.Memory.{Memory, lane_bytes, stored}
-use Rattle.ir_model.specs.Step.{State, Effect, memory_effect, value_effect, store_effect, result_of, bytes_of, effect_of, stepped, after_effect, step_of}
+use Rattle.ir_model.specs.Step.{State, Effect, memory_effect, value_effect, store_effect, result_of, bytes_of, effect_of, stepped, after_effect}
 use Rattle.ir_model.specs.Run.{is_terminator, is_phi}
 use Rattle.vx_serial.specs.declared.pairing.scan.LedStore.{LedStore}
 use Rattle.vx_serial.specs.Pair.{is_int, is_ptr, is_byte, is_number, is_local, is_plain, is_operand, is_literal, is_statement_of, is_memory, Lead, Leads, set_lead, lead_on, leads_by, led_store, led_store_by}
-use Rattle.rf_pack.proofs.Known.{LeadHolds, Known, known-set, lead_on-holds}
+use Rattle.rf_pack.proofs.Known.{Known, known-set, lead_on-holds}
 
 -- the effect of an instruction in an environment
 abbrev pub effect_in : (Id → Ty) → Op → Ty → List Opd → Env → Memory → Option Effect

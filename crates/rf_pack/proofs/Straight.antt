@@ -1,18 +1,16 @@
 -- Straight code: statements of the first forms and then `ret void`.
-use Rattle.std.proofs.Common.{◌≡◌, refl, sym, ap, ◌∙◌, subst, ℕ, ℤ, Bool, true, false, ◌&&◌, Option, None, Some, List, [], ◌∷◌, map, cond}
+use Rattle.std.proofs.Common.{◌≡◌, refl, sym, ap, ◌∙◌, subst, ℕ, Bool, true, false, ◌&&◌, Option, None, Some, List, [], ◌∷◌, map, cond}
 use Rattle.ir_types.specs.declared.id.Id.{Id}
 use Rattle.ir_types.specs.declared.ty.Ty.{Ty}
 use Rattle.ir_types.specs.declared.opd.Opd.{Opd}
 use Rattle.ir_types.specs.declared.op.Op.{Op}
 use Rattle.ir_types.specs.declared.op.Op.TheVariants.{Ret}
 use Rattle.ir_types.specs.declared.inst.Inst.{Inst}
-use Rattle.ir_model.specs.declared.value.Value.{Value}
 use Rattle.ir_model.specs.Values.{Env, value_of}
-use Rattle.ir_model.specs.Memory.{Memory}
-use Rattle.ir_model.specs.Step.{State, Effect, after_effect, step_of}
+use Rattle.ir_model.specs.Step.{State, after_effect, step_of}
 use Rattle.ir_model.specs.Run.{Ended, Stops, Returns, Goes, is_terminator, is_phi, leave, then_ends, run_insts, enter, with_phi, arm_of}
 use Rattle.vx_serial.specs.Pair.{is_statement_of, is_named, is_statement, is_void, is_return_of, is_return, is_last, is_straight, is_memory}
-use Rattle.rf_pack.proofs.Statements.{effect_in, both_true, true_of, Plain, plain}
+use Rattle.rf_pack.proofs.Statements.{both_true, true_of, Plain, plain}
 
 -- the first instruction of straight code: the return, or a statement before straight code
 pub data StraightFrom (i : Inst) (is : List Inst) : Type 0 where
