@@ -1,7 +1,7 @@
 -- Bytes put over others, an item set in a list, and the lengths of the bytes of lanes.
-use Rattle.std.proofs.Common.{◌≡◌, refl, sym, ap, ◌∙◌, ℕ, zero, suc, ◌+◌, ◌*◌, ◌≤◌, ◌<◌, Option, None, Some, List, [], ◌∷◌, ◌++◌, length, slice_get, slice_set, arith, length-append}
+use Rattle.std.proofs.Common.{◌≡◌, refl, sym, ap, ◌∙◌, ℕ, zero, suc, ◌+◌, ◌≤◌, None, Some, List, [], ◌∷◌, ◌++◌, length, slice_get, slice_set, arith}
 use Rattle.ir_model.specs.Values.{Lane}
-use Rattle.ir_model.specs.Memory.{put, lane_bytes, row_bytes}
+use Rattle.ir_model.specs.Memory.{put, lane_bytes}
 
 pub put-nil : {A : Type 0} (xs : List A) (at : ℕ) → put xs at [] ≡ []
 put-nil [] at = refl

@@ -1,12 +1,12 @@
 -- What stays the same may stand for itself.
-use Rattle.std.proofs.Common.{◌≡◌, refl, subst, ℕ, Option, None, Some, List, [], ◌∷◌}
+use Rattle.std.proofs.Common.{refl, Option, None, Some, List, [], ◌∷◌}
 use Rattle.std.specs.List.{AllZip}
 use Rattle.ir_model.specs.declared.value.Value.{Value}
 use Rattle.ir_model.specs.declared.value.Value.TheVariants.{Lane as LaneValue, Row as RowValue, Ptr as PtrValue}
 use Rattle.ir_model.specs.declared.outcome.Outcome.{Outcome}
 use Rattle.ir_model.specs.declared.outcome.Outcome.TheVariants.{Returned, Undefined, Cut}
-use Rattle.ir_model.specs.Values.{Lane, MayStandFor, ValueRefines}
-use Rattle.ir_model.specs.Memory.{Object, Memory, MemoryRefines}
+use Rattle.ir_model.specs.Values.{MayStandFor, ValueRefines}
+use Rattle.ir_model.specs.Memory.{Memory, MemoryRefines}
 use Rattle.ir_model.specs.Refines.{ResultRefines, OutcomeRefines}
 
 pub stands_for_itself : {A : Type 0} (x : Option A) → MayStandFor x x

@@ -1,9 +1,8 @@
 -- A store taken apart: the object, the place in it, and what it leaves.
 use Rattle.std.proofs.Common.{◌≡◌, refl, sym, ap, ◌∙◌, subst, ℕ, ℤ, pos, negsuc, ◌+◌, ◌≤◌, ◌%◌, Bool, true, false, ◌&&◌, Option, None, Some, List, length, cond, nat_eq, nat_le, slice_get, slice_set, option_map, arith, set-set}
 use Rattle.std.proofs.lemmas.Bool.Decides.{nat_tests}
-use Rattle.ir_model.specs.Values.{Lane, Pointer}
+use Rattle.ir_model.specs.Values.{Lane}
 use Rattle.ir_model.specs.Memory.{Object, Memory, put, place_of, with_bytes, stored_in, stored}
-use Rattle.ir_model.proofs.Lists.{length-put, slice_get-set_same}
 
 -- an access of so many bytes has a place: its offset, inside the object and a multiple of the align
 pub record IsPlace (offset : ℤ) (size align len at : ℕ) : Type 0 where

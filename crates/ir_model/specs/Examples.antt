@@ -1,9 +1,9 @@
 -- Worked runs: two stores, an undefined run, and a run that is cut.
-use Rattle.std.specs.Prelude.{◌≡◌, refl, ℕ, pos, false, Option, None, Some, List, [], ◌∷◌, codes, ⊤}
+use Rattle.std.specs.Prelude.{◌≡◌, refl, ℕ, pos, false, Option, None, Some, List, [], ◌∷◌, codes}
 use Rattle.std.specs.Int.{int_wrap}
 use Rattle.ir_types.specs.declared.id.Id.{Id}
 use Rattle.ir_types.specs.declared.ty.Ty.{Ty}
-use Rattle.ir_types.specs.declared.ty.Ty.TheVariants.{Void, Int, Ptr, Row}
+use Rattle.ir_types.specs.declared.ty.Ty.TheVariants.{Void, Int, Ptr}
 use Rattle.ir_types.specs.declared.ty.Elem.TheVariants.{One}
 use Rattle.ir_types.specs.declared.opd.Opd.{Opd}
 use Rattle.ir_types.specs.declared.opd.Opd.TheVariants.{Val, Lit}

@@ -2,7 +2,7 @@
 --
 -- A memory is a list of objects, an object a list of bytes, of which each is a number below 256 or poison. Numbers lie with their
 -- low byte first. An access is undefined where its range is not inside the object or its offset is no multiple of its align.
-use Rattle.std.specs.Prelude.{◌≡◌, refl, ℕ, suc, zero, ℤ, pos, negsuc, ◌+◌, ◌*◌, ◌/◌, ◌%◌, Bool, ◌&&◌, Option, None, Some, List, [], ◌∷◌, ◌++◌, length, drop, cond, nat_eq, nat_le, slice_get, slice_set, option_map, option_and_then}
+use Rattle.std.specs.Prelude.{◌≡◌, refl, ℕ, suc, zero, ℤ, pos, negsuc, ◌+◌, ◌*◌, ◌/◌, ◌%◌, ◌&&◌, Option, None, Some, List, [], ◌∷◌, ◌++◌, length, drop, cond, nat_eq, nat_le, slice_get, slice_set, option_map}
 use Rattle.std.specs.List.{AllZip}
 use Rattle.ir_model.specs.Values.{Lane, Pointer, MayStandFor}
 

@@ -2,7 +2,7 @@
 --
 -- Before each block the bound is looked at: at 0 the run is cut with the memory as it is, else it falls by one and the block runs
 -- with its terminator. A block's phis read their values at once, on the edge that was taken.
-use Rattle.std.specs.Prelude.{◌≡◌, ℕ, zero, suc, pos, ◌++◌, Bool, true, false, not, ◌&&◌, ◌||◌, Option, None, Some, List, [], ◌∷◌, length, map, cond, nat_eq, nat_le, slice_get}
+use Rattle.std.specs.Prelude.{ℕ, zero, suc, ◌++◌, Bool, true, false, not, ◌&&◌, ◌||◌, Option, None, Some, List, [], ◌∷◌, length, map, cond, nat_eq, nat_le, slice_get}
 use Rattle.std.specs.List.{list_any}
 use Rattle.ir_types.specs.declared.id.Id.{Id}
 use Rattle.ir_types.specs.declared.ty.Ty.{Ty}

@@ -3,18 +3,16 @@
 -- `result_of` has the row of each form whose result depends on its operands' values alone, `effect_of` those of the forms that
 -- touch memory, and `step_of` brings the effect into the state. `None` is undefined behaviour. A row takes the type and the
 -- values of its operands, and fits them strictly: other shapes are undefined. What has no row here is undefined as well.
-use Rattle.std.specs.Prelude.{◌≡◌, refl, ℕ, ℤ, pos, ◌/◌, ◌*◌, Bool, Option, None, Some, List, [], ◌∷◌, map, option_map}
+use Rattle.std.specs.Prelude.{ℕ, ◌/◌, Option, None, Some, List, [], ◌∷◌, map, option_map}
 use Rattle.vx_num.specs.declared.operations.BinOp.TheVariants.{Add}
-use Rattle.vx_num.specs.declared.operations.Flags.{Flags}
 use Rattle.vx_num.specs.declared.lanes.Done.{Done}
 use Rattle.vx_num.specs.declared.lanes.Done.TheVariants.{Value as DoneValue, Undefined}
 use Rattle.vx_num.specs.Bin.{bin_of}
 use Rattle.vx_num.specs.Advance.{advance_of}
 use Rattle.ir_types.specs.declared.id.Id.{Id}
 use Rattle.ir_types.specs.declared.ty.Ty.{Ty}
-use Rattle.ir_types.specs.declared.ty.Ty.TheVariants.{Void, Int, Ptr, Row}
+use Rattle.ir_types.specs.declared.ty.Ty.TheVariants.{Int, Ptr, Row}
 use Rattle.ir_types.specs.declared.ty.Elem.TheVariants.{One}
-use Rattle.ir_types.specs.declared.opd.Opd.{Opd}
 use Rattle.ir_types.specs.declared.op.Op.{Op}
 use Rattle.ir_types.specs.declared.op.Op.TheVariants.{Bin, Gep, Load, Store}
 use Rattle.ir_types.specs.declared.inst.Inst.{Inst}

@@ -37,6 +37,6 @@ after_stores w p (l ∷ ls) m =
     option_and_then (after_stores w (moved p (pos (bytes_in w))) ls) (after_store l.align (Int w) (LaneValue l.lane) p m)
 
 two_bytes : after_stores 8 (Some (0, pos 1)) (record { align = 1; lane = Some 5 } ∷ record { align = 2; lane = None } ∷ []) ((Some 1 ∷ Some 2 ∷ Some 3 ∷ []) ∷ [])
-  ≡ Some ((Some 1 ∷ Some 5 ∷ None ∷ []) ∷ [])
+    ≡ Some ((Some 1 ∷ Some 5 ∷ None ∷ []) ∷ [])
 unfolding int_wrap
 two_bytes = refl

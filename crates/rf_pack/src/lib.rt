@@ -18,11 +18,9 @@ ghost use Rattle.rf_pack.specs.Lanes.{OffsetFits, LaneStore, lanes_of, after_sto
 /// behind the one before: where all of these are defined, so is the vector's, and the memory is the same.
 pub fn row_store_refines()
     ensures { (w : ℕ) (p : Pointer) (l : LaneStore) (ls : List LaneStore) (m : Memory) → w ≤ 64 → OffsetFits p → MayStandFor (after_store l.align (Row (length (l ∷ ls)) w) (RowValue (lanes_of (l ∷ ls))) p m) (after_stores w p (l ∷ ls) m) }
-{
-}
+{}
 
 /// The module in which two neighbouring stores have become one refines the module.
 pub fn pair_refines()
     ensures { (m : Module) → ModuleRefines (pair_of m) m }
-{
-}
+{}

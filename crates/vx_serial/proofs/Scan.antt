@@ -1,14 +1,12 @@
 -- The scan in one pass finds the pair of the definition.
-use Rattle.std.proofs.Common.{◌≡◌, refl, sym, ap, ◌∙◌, subst, ℕ, zero, suc, ◌+◌, ◌-◌, ◌<◌, Bool, true, false, Option, None, Some, List, [], ◌∷◌, ◌++◌, cond, length, take, drop, option_map, option_and_then, IfSome, IfOk, Result, Ok, Err, arith, append_assoc, append-nil, length-append}
-use Rattle.std.proofs.Math.Seq.{drop-append_seam, take-append_seam, drop-append-add}
+use Rattle.std.proofs.Common.{◌≡◌, refl, sym, ap, ◌∙◌, ℕ, suc, ◌+◌, ◌-◌, ◌<◌, Bool, true, false, Option, None, Some, List, [], ◌∷◌, ◌++◌, cond, length, take, drop, option_map, option_and_then, IfSome, IfOk, Result, Ok, Err, arith, append_assoc, length-append}
+use Rattle.std.proofs.Math.Seq.{take-append_seam, drop-append-add}
 use Rattle.std.specs.Option.{option_or}
 use Rattle.ir_types.specs.declared.ty.Ty.{Ty}
-use Rattle.ir_types.specs.declared.ty.Ty.TheVariants.{Void, Int, Ptr, Row}
 use Rattle.ir_types.specs.declared.id.Id.{Id}
 use Rattle.ir_types.specs.declared.opd.Opd.{Opd}
-use Rattle.ir_types.specs.declared.opd.Opd.TheVariants.{Val, Lit}
 use Rattle.ir_types.specs.declared.op.Op.{Op}
-use Rattle.ir_types.specs.declared.op.Op.TheVariants.{Load, Store}
+use Rattle.ir_types.specs.declared.op.Op.TheVariants.{Store}
 use Rattle.ir_types.specs.declared.inst.Inst.{Inst}
 use Rattle.vx_serial.specs.declared.pairing.scan.LedStore.{LedStore}
 use Rattle.vx_serial.specs.declared.pairing.scan.Waiting.{Waiting}
@@ -18,7 +16,7 @@ use Rattle.vx_serial.specs.PairScan.{pair_at, awaited, found_pair, waiting_after
 
 -- ---- stores touch memory, and lead nowhere new
 
-store_keeps : (leads : Leads) (id : Id) (op : Op) (ty : Ty) (opds : List Opd) (a : LedStore) → led_store_by leads op ty opds ≡ Some a →
+pub store_keeps : (leads : Leads) (id : Id) (op : Op) (ty : Ty) (opds : List Opd) (a : LedStore) → led_store_by leads op ty opds ≡ Some a →
     (is_memory op ≡ true) × (leads_by leads id op opds ≡ leads)
 store_keeps leads id (Store align) ty opds a e = (refl, refl)
 store_keeps leads id op ty opds a e = absurd (none e)

@@ -1,11 +1,11 @@
 -- What is known at a function's start, one parameter more.
-use Rattle.std.proofs.Common.{◌≡◌, refl, sym, ap, ◌∙◌, ℕ, pos, Bool, true, false, Option, None, Some, List, [], ◌∷◌, ◌++◌, cond, arith, nat_eq, ◌&&◌}
+use Rattle.std.proofs.Common.{◌≡◌, refl, ap, pos, Bool, true, false, None, Some, List, [], ◌∷◌, ◌++◌, cond, arith, nat_eq, ◌&&◌}
 use Rattle.std.proofs.Math.Path.{fun_ext}
 use Rattle.std.proofs.lemmas.Bool.Decides.{nat_tests}
 use Rattle.ir_types.specs.declared.id.Id.{Id}
 use Rattle.ir_types.specs.declared.func.Param.{Param}
 use Rattle.ir_model.specs.Values.{same_id}
-use Rattle.vx_serial.specs.Pair.{Leads, Lead, leads_at_start, set_lead}
+use Rattle.vx_serial.specs.Pair.{Lead, leads_at_start, set_lead}
 
 and_both : (a b : Bool) → a && b ≡ true → (a ≡ true) × (b ≡ true)
 and_both true b e = (refl, e)

@@ -1,9 +1,8 @@
 -- Worked examples of `pair_of`: a pair, and a load between.
-use Rattle.std.specs.Prelude.{◌≡◌, refl, ℕ, ◌+◌, ◌^◌, ◌-◌, false, Option, None, Some, List, [], ◌∷◌, codes}
+use Rattle.std.specs.Prelude.{◌≡◌, refl, ℕ, ◌+◌, ◌^◌, ◌-◌, false, None, Some, [], ◌∷◌, codes}
 use Rattle.std.specs.Int.{int_wrap}
 use Rattle.ir_types.specs.declared.ty.Ty.TheVariants.{Void, Int, Ptr, Row}
 use Rattle.ir_types.specs.declared.ty.Elem.TheVariants.{One}
-use Rattle.ir_types.specs.declared.opd.Opd.{Opd}
 use Rattle.ir_types.specs.declared.opd.Opd.TheVariants.{Val, Lit}
 use Rattle.ir_types.specs.declared.op.Op.TheVariants.{Gep, Load, Store, Ret}
 use Rattle.ir_types.specs.declared.inst.Inst.{Inst}

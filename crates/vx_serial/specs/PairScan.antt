@@ -1,5 +1,5 @@
 -- How the code looks for the pair: in one pass, with the last store that may still pair kept.
-use Rattle.std.specs.Prelude.{ℕ, ◌+◌, ◌-◌, Bool, Option, None, Some, List, [], ◌∷◌, ◌++◌, ℤ, cond, take, drop, option_map}
+use Rattle.std.specs.Prelude.{ℕ, ◌+◌, ◌-◌, Option, None, Some, List, [], ◌∷◌, ◌++◌, ℤ, cond, take, drop, option_map}
 use Rattle.std.specs.Option.{option_or, option_flatten}
 use Rattle.std.specs.HashMap.{HashMap, get}
 use Rattle.ir_types.specs.declared.id.Id.{Id}

@@ -6,7 +6,7 @@
 
 mod pairing;
 
-pub use pairing::pair;
+pub use pairing::{pair, pair_is_least};
 
 #[cfg(test)]
 mod tests;

@@ -3,10 +3,12 @@
 //! The rule is the definition `pair_of`; this is its only entry point, and the files of this folder serve it alone. The time is
 //! linear in the module, but for hashing. Want of memory is the only failure.
 
-ghost use Rattle.std.specs.Prelude.{◌≡◌, ◌<◌, ◌++◌, [], ◌∷◌, length, IfOk, OnOk};
+ghost use Rattle.std.specs.Prelude.{◌≡◌, ◌<◌, ◌++◌, List, [], ◌∷◌, length, IfOk, OnOk};
 ghost use Rattle.ir_types.specs.declared.module.Item.TheVariants.{Func as FuncItem};
-ghost use Rattle.vx_serial.specs.Pair.{leads_at_start, paired, or_same, pair_in_blocks, pair_in_func, pair_of};
+ghost use Rattle.vx_serial.specs.Pair.{Leads, leads_at_start, paired, or_same, pair_in_blocks, pair_in_func, pair_of};
 ghost use Rattle.vx_serial.specs.PairScan.{with_found};
+ghost use Rattle.vx_serial.specs.PairPlaces.{JoinsLeast};
+ghost use Rattle.ir_types.specs.declared.inst.Inst.{Inst};
 
 mod forms;
 mod leads;
@@ -111,3 +113,8 @@ fn push_copies(alloc: Global, joined: &mut Insts, more: &[Inst]) -> Result<(), O
     }
     Ok(())
 }
+
+/// What `pair` joins is the least pair by the place of its first store and then of its second; where it joins none, there is none.
+pub fn pair_is_least()
+    ensures { (leads : Leads) (insts : List Inst) → JoinsLeast leads insts (paired leads insts) }
+{}

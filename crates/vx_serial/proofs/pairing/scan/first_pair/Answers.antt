@@ -1,4 +1,4 @@
-use Rattle.std.proofs.Common.{◌≡◌, sym, subst, ap, ◌∙◌, ◌<◌, length, option_map, IfSome, Option}
+use Rattle.std.proofs.Common.{sym, subst, ap, ◌∙◌, ◌<◌, length, option_map, IfSome, Option}
 use Rattle.vx_serial.specs.declared.pairing.scan.Found.{Found}
 use Rattle.vx_serial.specs.PairScan.{leads_in, with_found}
 use Rattle.vx_serial.proofs.Scan.{scan_pairs, scan_orders, if_ok_then}

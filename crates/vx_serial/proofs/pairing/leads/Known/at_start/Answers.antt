@@ -1,4 +1,4 @@
-use Rattle.std.proofs.Common.{◌≡◌, sym, ap, ◌∙◌, ◌+◌, ◌++◌, ◌∷◌, [], pos, Some, take}
+use Rattle.std.proofs.Common.{sym, ap, ◌∙◌, ◌++◌, ◌∷◌, [], pos, Some, take}
 use Rattle.std.proofs.lemmas.Grind.{take_at_read}
 use Rattle.vx_serial.specs.Pair.{leads_at_start, set_lead}
 use Rattle.vx_serial.proofs.Start.{leads_at_start-more}
