@@ -14,3 +14,6 @@ mod operand;
 mod value_ops;
 
 pub use module::print;
+
+#[cfg(test)]
+mod tests;
