@@ -3,7 +3,7 @@
 //! `distances` is the entry point; it fails for want of memory alone. A distance is a number of edges, and `None` where there is
 //! no way. The blocks at a distance are found from those at one less, in rounds until one finds none.
 
-ghost use Rattle.std.specs.Prelude.{◌≡◌, ℕ, ◌+◌, ◌<◌, ◌≤◌, ◌==◌, ◌↔◌, false, true, length, count_by, IfOk, IsTrue};
+ghost use Rattle.std.specs.Prelude.{◌≡◌, ℕ, ◌<◌, ◌≤◌, ◌↔◌, ◌⊎◌, false, true, length, count_by, IfOk, IsSome, IsTrue};
 ghost use Rattle.std.specs.Option.{is_none};
 ghost use Rattle.ir_types.specs.Walks.{HasEdge, targets_at};
 ghost use Rattle.ir_avail.specs.Avoids.{bar_at, distance_at, AreDistances, AreNear, IsNext};
@@ -62,7 +62,7 @@ fn next_round(
     most: usize,
 ) -> Result<Round, AllocError>
     requires len { length distances.now ≡ length graph.now }
-    requires fits { most < 2 ^ 64 - 1 }
+    requires most { most ≤ length graph.now }
     ensures len { IfOk result (λ r. length r.distances.items ≡ length graph.now) }
     ensures next { IfOk result (λ r. (a : ℕ) → a < length graph.now
         → IsNext graph.now (bar_at barred.now) distances.now most a (distance_at r.distances.items a)) }
@@ -75,13 +75,21 @@ fn next_round(
     let mut found = false;
     for number in 0..distances.len() {
         let distance = next_distance(graph, barred, distances, most, number);
-        found = found || distance.is_some() && distances[number].is_none();
+        found = is_found(found, distance, distances[number]);
         next.push(distance)?;
     }
     Ok(Round {
         distances: next,
         found,
     })
+}
+
+/// Whether a distance was found before, or this one is new.
+fn is_found(found: bool, distance: Option<usize>, old: Option<usize>) -> bool
+    ensures one { result ≡ true → (found ≡ true) ⊎ ((old ≡ None) × IsSome distance) }
+    ensures none { result ≡ false → (found ≡ false) × (old ≡ None → distance ≡ None) }
+{
+    found || distance.is_some() && old.is_none()
 }
 
 /// A block's distance, or one more than `most` where it has none and a target has `most`.
@@ -94,15 +102,17 @@ fn next_distance(
 ) -> Option<usize>
     requires len { length distances.now ≡ length graph.now }
     requires within { number < length graph.now }
-    requires fits { most < 2 ^ 64 - 1 }
+    requires most { most ≤ length graph.now }
     ensures { IsNext graph.now (bar_at barred.now) distances.now most number result }
 {
-    if distances[number].is_some() {
-        return distances[number];
+    let len = distances.len();
+    if let Some(distance) = distances[number] {
+        return Some(distance);
     }
     if is_barred(barred, number) || !leads_to(graph, distances, most, number) {
         return None;
     }
+    prove!(most <= len);
     Some(most + 1)
 }
 

@@ -1,0 +1,5 @@
+pub mod Ways
+pub mod Leasts
+pub mod Stands
+pub mod Lists
+pub mod Bits
