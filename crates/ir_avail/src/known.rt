@@ -3,7 +3,7 @@
 //! `Known::new` fails for want of memory alone. `Known::clears` says yes only where the use is available; where it says no, the
 //! use is to be looked at by itself. The map from ids to places is a hint: each place is looked up in the function again.
 
-ghost use Rattle.std.specs.Prelude.{◌≡◌, ℕ, true, IfOk, slice_get};
+ghost use Rattle.std.specs.Prelude.{◌≡◌, true, IfOk, slice_index};
 ghost use Rattle.ir_types.specs.Available.{same_id, is_param, insts_at, graph_of, IsAvailableAt};
 ghost use Rattle.ir_avail.specs.Rows.{IsBand};
 ghost use Rattle.ir_avail.specs.Known.{AreBands};
@@ -84,12 +84,33 @@ fn clears_in(
     ensures { result ≡ true → IsAvailableAt func.now value before end }
 {
     match band.homes.get(column) {
-        Some(home) => {
-            stands_at(func, value, *home, position)
-                && (*home == end && position < before || band.is_clear(column, end))
-        },
+        Some(home) => clears_at(func, value, before, end, band, column, *home, position),
         None => false,
     }
+}
+
+/// The same of a value that may be defined at a position of its home.
+fn clears_at(
+    func: &Func,
+    value: Id,
+    before: usize,
+    end: usize,
+    band: &Band,
+    column: usize,
+    home: usize,
+    position: usize,
+) -> bool
+    requires band { IsBand (graph_of func.now) band.now.homes.items band.now.rows.items }
+    requires home { slice_index band.now.homes.items column ≡ home }
+    ensures { result ≡ true → IsAvailableAt func.now value before end }
+{
+    if !stands_at(func, value, home, position) {
+        return false;
+    }
+    if home == end && position < before {
+        return true;
+    }
+    band.is_clear(column, end)
 }
 
 /// Whether the instruction at a position of a block defines the value.

@@ -27,7 +27,10 @@ pub(crate) fn least_miss(
     ensures { IfOk result (λ miss. MatchOption miss (IsAvailableAt func.now value before end)
         (IsLeastMiss func.now value before end)) }
 {
-    if is_param(func, value) || is_defined_before(func, value, before, end) {
+    if is_param(func, value) {
+        return Ok(None);
+    }
+    if is_defined_before(func, value, before, end) {
         return Ok(None);
     }
     let barred = defining_blocks(alloc, func, value)?;

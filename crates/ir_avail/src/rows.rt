@@ -43,10 +43,17 @@ impl Band {
             × (column < 64) × (bit_at row column ≡ 0) }
     {
         match self.rows.get(block) {
-            Some(row) => column < 64 && (*row >> column) & 1 == 0,
+            Some(row) => lacks_bit(*row, column),
             None => false,
         }
     }
+}
+
+/// Whether the column is one of 64 and its bit is clear.
+fn lacks_bit(row: u64, column: usize) -> bool
+    ensures { result ≡ true → (column < 64) × (bit_at row column ≡ 0) }
+{
+    if column < 64 { (row >> column) & 1 == 0 } else { false }
 }
 
 /// So many words of one value.
@@ -54,7 +61,7 @@ fn full(alloc: Global, len: usize, word: u64) -> Result<Vec<u64>, AllocError>
     ensures { IfOk result (λ words. (k row : ℕ) → slice_get words.items k ≡ Some row → row ≡ word) }
 {
     let mut words = Vec::with_capacity(alloc, len)?;
-    for _ in 0..len {
+    'each: for _ in 0..len {
         words.push(word)?;
     }
     Ok(words)
@@ -65,13 +72,21 @@ fn home_words(alloc: Global, len: usize, homes: &[usize]) -> Result<Vec<u64>, Al
     ensures { IfOk result (λ words. AreHomes homes.now words.items) }
 {
     let mut words = full(alloc, len, 0)?;
-    for column in 0..homes.len() {
-        let home = homes[column];
-        if column < 64 && home < words.len() {
-            words[home] = with_bit(words[home], column);
-        }
+    for column in 0..homes.len().min(64) {
+        add_home(&mut words, homes[column], column);
     }
     Ok(words)
+}
+
+/// Sets the bit of a column in the word of its home.
+fn add_home(words: &mut [u64], home: usize, column: usize)
+    requires { column < 64 }
+    ensures { (a other : ℕ) → bit_at (slice_index words.new a) other ≡ 1
+        → ((a ≡ home) × (other ≡ column)) ⊎ (bit_at (slice_index words.old a) other ≡ 1) }
+{
+    if home < words.len() {
+        words[home] = with_bit(words[home], column);
+    }
 }
 
 /// The word with one bit set.
