@@ -82,3 +82,23 @@ pub band_full : (graph : List (List ℕ)) (homes rows : List ℕ) → ((k row : 
 band_full graph homes rows all column end row way low at clear av =
     let set : bit_at row column ≡ 1 = ap (λ x. bit_at x column) (all end row at) ∙ full_row column low in
     absurd (omega (arith, set, clear))
+
+-- one more target
+pub goes_more : (row word own i : ℕ) (targets rows : List ℕ) → own ≡ get_or rows (get_or targets i 0) 0
+    → bit_or row (bit_or word own) ≡ bit_or word own
+    → ((k column : ℕ) → k < i → bit_at row column ≡ 1 → bit_at word column ≡ 0 → bit_at (get_or rows (get_or targets k 0) 0) column ≡ 1)
+    → (k column : ℕ) → k < i + 1 → bit_at row column ≡ 1 → bit_at word column ≡ 0 → bit_at (get_or rows (get_or targets k 0) 0) column ≡ 1
+goes_more row word own i targets rows is same before k column low has lacks =
+    elim (cases_eq k i) [
+      | inl here ↦
+          ap (λ j. bit_at (get_or rows (get_or targets j 0) 0) column) here ∙ ap (λ x. bit_at x column) (sym is) ∙ goes row word own column same has lacks
+      | inr other ↦ before k column (omega arith) has lacks
+    ]
+
+pub band_made : (graph : List (List ℕ)) (homes homes' words words' rows rows' : List ℕ) → homes' ≡ homes → words' ≡ words → rows' ≡ rows
+    → AreHomes homes words → IsClosed graph words' rows' → get_or rows' 0 0 ≡ 2 ^ 64 - 1 → IsBand graph homes' rows
+band_made graph homes homes' words words' rows rows' hs ws rs are closed entry =
+    let P : List ℕ → Type 0 = λ h. IsBand graph h rows in
+    let Q : List ℕ → Type 0 = λ r. IsBand graph homes r in
+    let R : List ℕ → Type 0 = λ w. AreHomes homes w in
+    subst P (sym hs) (subst Q rs (band_of graph homes words' rows' (subst R (sym ws) are) closed entry))

@@ -3,3 +3,4 @@ pub mod Leasts
 pub mod Stands
 pub mod Lists
 pub mod Bits
+pub mod Firsts

@@ -1,5 +1,5 @@
 -- From ways that leave no barred block to walks on which a definition stands, and back.
-use Rattle.std.proofs.Common.{◌≡◌, ℕ, ◌+◌, ◌<◌, ◌≤◌, Bool, true, false, List, [], ◌∷◌, length, get_or, take, map, refl, sym, ◌∙◌, ap, subst, inl, inr, arith, zero, suc}
+use Rattle.std.proofs.Common.{◌≡◌, ℕ, ◌+◌, ◌<◌, ◌≤◌, Bool, true, false, List, [], ◌∷◌, length, get_or, take, map, refl, sym, ◌∙◌, ap, subst, inl, inr, arith, zero, suc, eqb-true}
 use Rattle.std.specs.Prelude.{◌||◌, ◌⊎◌, slice_get, MatchOption}
 use Rattle.std.proofs.lemmas.Bool.{cases_eq}
 use Rattle.std.specs.declared.option.Option.{Option}
@@ -11,7 +11,12 @@ use Rattle.ir_types.specs.declared.func.Func.{Func}
 use Rattle.ir_types.specs.Walks.{HasEdge, GoesOn, IsWalk, EndsFrom, EndsAt, Precedes, NotGreater}
 use Rattle.ir_types.specs.Available.{same_id, is_param, defines, insts_of, insts_at, graph_of, stands_from, stands_on, IsAvailableAt, IsMiss, IsLeastMiss}
 use Rattle.ir_avail.specs.Avoids.{bar_at, distance_at, Avoids, AreDistances, IsLeast, LeadsLeast}
+use Rattle.ir_types.specs.declared.func.Param.{Param}
+use Rattle.std.specs.List.{list_any}
+use Rattle.std.specs.Int.{bit_at}
+use Rattle.ir_avail.specs.Rows.{IsBand, at_home}
 use Rattle.ir_avail.specs.Places.{StandsAt}
+use Rattle.ir_avail.proofs.Ways.{within}
 
 equal_or_more : (a b : ℕ) → a ≤ b → (b ≡ a) ⊎ (a < b)
 equal_or_more a b h = elim (cases_eq b a) [ | inl same ↦ inl same | inr other ↦ inr (omega arith) ]
@@ -147,3 +152,55 @@ defines_before value (i ∷ is) zero (suc before) at low =
     ap (λ b. b || defines value (take before is)) (ap (λ (j : Inst). same_id j.id value) same ∙ at.2)
 defines_before value (i ∷ is) (suc position) (suc before) at low =
     or_true (same_id i.id value) (defines value (take before is)) (defines_before value is position before at (omega arith))
+
+module _ (func : Func) (value : Id) (before end : ℕ) (graph : List (List ℕ)) (bars_list : List Bool) (ds : List (Option ℕ))
+    (graph_is : graph ≡ graph_of func) (bars_are : bars_list ≡ map (λ (b : Block). defines value b.insts) func.blocks)
+    (are : AreDistances graph (bar_at bars_list) end ds) where
+  same_bars : (v : ℕ) → bar_at bars_list v ≡ bars func value before end v
+  same_bars v = ap (λ (l : List Bool). bar_at l v) bars_are ∙ bar_at-map value func.blocks v
+
+  of_func : AreDistances (graph_of func) (bar_at bars_list) end ds
+  of_func = let P : List (List ℕ) → Type 0 = λ g. AreDistances g (bar_at bars_list) end ds in subst P graph_is are
+
+  -- no distance from the entry: nothing is missed
+  pub miss_none : (read : List (Option ℕ)) → read ≡ ds → None ≡ distance_at read 0 → IsAvailableAt func value before end
+  miss_none read same at =
+      let none : None ≡ distance_at ds 0 = at ∙ ap (λ (d : List (Option ℕ)). distance_at d 0) same in
+      available_none func value before end (λ entry way av.
+      let k = of_func.complete 0 way entry (weaken (graph_of func) (bars func value before end) (bar_at bars_list) end (λ v e. same_bars v ∙ e) 0 way av) in
+      (let clash : None ≡ Some k.0 = none ∙ k.1 in cc))
+
+  -- a distance: the least way of so many edges is the least walk that misses
+  pub miss_least : (read : List (Option ℕ)) → read ≡ ds → (taken : List (Option ℕ)) → taken ≡ ds → (len : ℕ) (walk : List ℕ) → Some len ≡ distance_at read 0
+      → LeadsLeast graph taken len walk → false ≡ is_param value func → false ≡ defines value (take before (insts_at func end))
+      → IsLeastMiss func value before end walk
+  miss_least read same taken same_taken len walk at leads no_param no_last =
+      let start : distance_at ds 0 ≡ Some len = sym (at ∙ ap (λ (d : List (Option ℕ)). distance_at d 0) same) in
+      let P : List (List ℕ) → Type 0 = λ g. LeadsLeast g ds len walk in
+      let Q : List (Option ℕ) → Type 0 = λ d. LeadsLeast graph d len walk in
+      let entry : 0 < length (graph_of func) = (let h : 0 < length ds = within ds 0 len start in let l : length ds ≡ length (graph_of func) = of_func.long in omega (arith, h, l)) in
+      least_walk func value before end (bar_at bars_list) ds len walk same_bars of_func start entry (subst P graph_is (subst Q same_taken leads)) (sym no_param) (sym no_last)
+
+any_at : {X : Type 0} → (test : X → Bool) (xs : List X) (k : ℕ) (x : X) → Some x ≡ slice_get xs k → test x ≡ true → list_any test xs ≡ true
+any_at test [] k x at holds = absurd (cc)
+any_at test (y ∷ ys) zero x at holds = let same : x ≡ y = cc in ap (λ b. b || list_any test ys) (ap test (sym same) ∙ holds)
+any_at test (y ∷ ys) (suc k) x at holds = or_true (test y) (list_any test ys) (any_at test ys k x at holds)
+
+pub param_at : (func : Func) (value : Id) (k : ℕ) (p : Param) → Some p ≡ slice_get func.params k → same_id p.id value ≡ true → is_param value func ≡ true
+param_at func value k p at holds = any_at (λ (q : Param). same_id q.id value) func.params k p at holds
+
+-- a value whose bit is clear in a band
+pub clear_available : (func : Func) (value : Id) (before end column home position : ℕ) (homes rows : List ℕ) → IsBand (graph_of func) homes rows
+    → get_or homes column 0 ≡ home → StandsAt value (insts_at func home) position
+    → (row : ℕ) × (slice_get rows end ≡ Some row) × (column < 64) × (bit_at row column ≡ 0) → IsAvailableAt func value before end
+clear_available func value before end column home position homes rows band home_is at clear =
+    available_none func value before end (λ entry way av.
+    band column end clear.0 way clear.2 clear.1 clear.3
+    (weaken (graph_of func) (bars func value before end) (at_home homes column) end (λ v free. away v free (at_home homes column v) refl) 0 way av))
+  where
+    away : (v : ℕ) → bars func value before end v ≡ false → (b : Bool) → at_home homes column v ≡ b → at_home homes column v ≡ false
+    away v free false is = is
+    away v free true is =
+        let same : v ≡ home = eqb-true v (get_or homes column 0) is ∙ home_is in
+        let there : defines value (insts_at func v) ≡ true = ap (λ w. defines value (insts_at func w)) same ∙ defines_at value (insts_at func home) position at in
+        absurd (let clash : false ≡ true = sym free ∙ there in cc)

@@ -79,10 +79,10 @@ fn home_words(alloc: Global, len: usize, homes: &[usize]) -> Result<Vec<u64>, Al
 }
 
 /// Sets the bit of a column in the word of its home.
-fn add_home(words: &mut [u64], home: usize, column: usize)
+fn add_home(words: &mut Vec<u64>, home: usize, column: usize)
     requires { column < 64 }
-    ensures { (a other : ℕ) → bit_at (slice_index words.new a) other ≡ 1
-        → ((a ≡ home) × (other ≡ column)) ⊎ (bit_at (slice_index words.old a) other ≡ 1) }
+    ensures { (a other : ℕ) → bit_at (slice_index words.new.items a) other ≡ 1
+        → ((a ≡ home) × (other ≡ column)) ⊎ (bit_at (slice_index words.old.items a) other ≡ 1) }
 {
     if home < words.len() {
         words[home] = with_bit(words[home], column);
