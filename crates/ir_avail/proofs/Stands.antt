@@ -19,7 +19,7 @@ use Rattle.ir_avail.specs.Places.{StandsAt}
 use Rattle.ir_avail.proofs.Ways.{within}
 
 equal_or_more : (a b : ℕ) → a ≤ b → (b ≡ a) ⊎ (a < b)
-equal_or_more a b h = elim (cases_eq b a) [ | inl same ↦ inl same | inr other ↦ inr (omega arith) ]
+equal_or_more a b h = elim (cases_eq b a) [ inl same ↦ inl same | inr other ↦ inr (omega arith) ]
 
 pub or_left : (a b : Bool) → a || b ≡ false → a ≡ false
 or_left true b e = e
@@ -123,9 +123,10 @@ module _ (func : Func) (value : Id) (before end : ℕ) where
 
       is_least : (way : List ℕ) → IsLeast (graph_of func) q end 0 len way → IsLeastMiss func value before end (0 ∷ way)
       is_least way least =
-          let av = weaken (graph_of func) q bars end (λ v e. sym (same v) ∙ e) 0 way least.avoids in
-          (((refl, entry, goes_of 0 way av), ends_of 0 way av, or_false (is_param value func) (stands_from func value before 0 way) no_param (misses_of no_last 0 way av)),
-          λ other miss. beats way other least miss)
+          let av = weaken (graph_of func) q bars end (λ v e. sym (same v) ∙ e) 0 way least.avoids in (
+            ((refl, entry, goes_of 0 way av), ends_of 0 way av, or_false (is_param value func) (stands_from func value before 0 way) no_param (misses_of no_last 0 way av)),
+            λ other miss. beats way other least miss,
+          )
 
 -- the bars of a list of blocks
 pub bar_at-map : (value : Id) (blocks : List Block) (v : ℕ) → bar_at (map (λ (b : Block). defines value b.insts) blocks) v ≡ defines value (insts_of (slice_get blocks v))

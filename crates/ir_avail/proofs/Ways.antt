@@ -14,10 +14,10 @@ within (x ∷ xs) zero n e = omega arith
 within (x ∷ xs) (suc a) n e = let h : a < length xs = within xs a n e in omega arith
 
 pub split_suc : (n m : ℕ) → n ≤ m + 1 → (n ≤ m) ⊎ (n ≡ m + 1)
-split_suc n m h = elim (cases_eq n (m + 1)) [ | inl same ↦ inr same | inr other ↦ inl (omega arith) ]
+split_suc n m h = elim (cases_eq n (m + 1)) [ inl same ↦ inr same | inr other ↦ inl (omega arith) ]
 
 pub split_le : (n m : ℕ) → n ≤ m → (n < m) ⊎ (n ≡ m)
-split_le n m h = elim (cases_eq n m) [ | inl same ↦ inr same | inr other ↦ inl (omega arith) ]
+split_le n m h = elim (cases_eq n m) [ inl same ↦ inr same | inr other ↦ inl (omega arith) ]
 
 pub not_false : (b : Bool) → not b ≡ false → b ≡ true
 not_false true e = refl

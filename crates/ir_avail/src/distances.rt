@@ -158,9 +158,7 @@ pub(crate) fn distance_of(distances: &[Option<usize>], number: usize) -> Option<
 
 /// Whether an edge leads from the block to one at the distance.
 fn leads_to(graph: &Graph, distances: &[Option<usize>], distance: usize, number: usize) -> bool
-    ensures {
-        IsTrue result ↔ ((b : ℕ) × HasEdge graph.now number b × (distance_at distances.now b ≡ Some distance))
-    }
+    ensures { IsTrue result ↔ ((b : ℕ) × HasEdge graph.now number b × (distance_at distances.now b ≡ Some distance)) }
 {
     let len = graph.len();
     for target in targets(graph, number) {

@@ -40,7 +40,11 @@ fn op_targets(alloc: Global, op: &Op) -> Result<Numbers, AllocError>
     match op {
         Op::Br { to } => numbers(alloc, *to, &[]),
         Op::CondBr { yes, no } => numbers(alloc, *yes, &[*no]),
-        Op::Switch { other, cases: _, to } => numbers(alloc, *other, to.as_slice()),
+        Op::Switch {
+            other,
+            cases: _,
+            to,
+        } => numbers(alloc, *other, to.as_slice()),
         _ => Ok(Seq::new(alloc)),
     }
 }

@@ -53,13 +53,23 @@ impl Known {
     {
         match self.homes.get(&value) {
             Some(Home::Param(number)) => is_param_at(func, value, *number),
-            Some(Home::Inst { column, position }) => self.clears_inst(func, value, before, end, *column, *position),
+            Some(Home::Inst { column, position }) => self.clears_inst(
+                func, value, before, end, *column, *position,
+            ),
             None => false,
         }
     }
 
     /// The same of a value that an instruction may define.
-    fn clears_inst(&self, func: &Func, value: Id, before: usize, end: usize, column: usize, position: usize) -> bool
+    fn clears_inst(
+        &self,
+        func: &Func,
+        value: Id,
+        before: usize,
+        end: usize,
+        column: usize,
+        position: usize,
+    ) -> bool
         requires { AreBands (graph_of func.now) self.now.bands.items }
         ensures { result ≡ true → IsAvailableAt func.now value before end }
     {
@@ -134,7 +144,11 @@ fn is_param_at(func: &Func, value: Id, number: usize) -> bool
 }
 
 /// Notes the place of each instruction in order of text, and gives their blocks.
-fn inst_homes(alloc: Global, func: &Func, homes: &mut HashMap<Id, Home>) -> Result<Vec<usize>, AllocError> {
+fn inst_homes(
+    alloc: Global,
+    func: &Func,
+    homes: &mut HashMap<Id, Home>,
+) -> Result<Vec<usize>, AllocError> {
     let mut blocks = Vec::new(alloc);
     for (number, block) in func.blocks.as_slice().iter().enumerate() {
         for (position, inst) in block.insts.as_slice().iter().enumerate() {

@@ -38,9 +38,7 @@ pub(crate) fn least(
 /// The least target of a block at the distance.
 fn least_target(graph: &Graph, distances: &[Option<usize>], distance: usize, at: u32) -> Option<u32>
     ensures some { IfSome result (λ b. IsTargetAt graph.now distances.now at distance b) }
-    ensures least {
-        IfSome result (λ b. (c : ℕ) → IsTargetAt graph.now distances.now at distance c → b ≤ c)
-    }
+    ensures least { IfSome result (λ b. (c : ℕ) → IsTargetAt graph.now distances.now at distance c → b ≤ c) }
     ensures none { IfNone result ((c : ℕ) → IsTargetAt graph.now distances.now at distance c → ⊥) }
 {
     let mut least = None;

@@ -17,11 +17,12 @@ mod least;
 mod miss;
 mod refusal;
 mod rows;
+#[cfg(test)]
+mod tests;
 mod uses;
 
-pub use refusal::AvailRefusal;
-
 use ir_types::{Item, Module};
+pub use refusal::AvailRefusal;
 use std::alloc::Global;
 use uses::check_func;
 

@@ -52,7 +52,10 @@ pub(crate) fn same_id(left: Id, right: Id) -> bool
 fn is_param(func: &Func, value: Id) -> bool
     ensures { result ≡ is_param value func.now }
 {
-    func.params.as_slice().iter().any(|param| same_id(param.id, value))
+    func.params
+        .as_slice()
+        .iter()
+        .any(|param| same_id(param.id, value))
 }
 
 /// Whether one of the instructions defines the value.

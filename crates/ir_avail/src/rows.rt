@@ -53,7 +53,11 @@ impl Band {
 fn lacks_bit(row: u64, column: usize) -> bool
     ensures { result ≡ true → (column < 64) × (bit_at row column ≡ 0) }
 {
-    if column < 64 { (row >> column) & 1 == 0 } else { false }
+    if column < 64 {
+        (row >> column) & 1 == 0
+    } else {
+        false
+    }
 }
 
 /// So many words of one value.

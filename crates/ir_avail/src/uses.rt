@@ -7,7 +7,7 @@ ghost use Rattle.ir_types.specs.Available.{walk_end, before_use, insts_at, graph
 ghost use Rattle.ir_avail.specs.Verdict.{Judges};
 ghost use Rattle.ir_avail.specs.Known.{AreFacts};
 
-use crate::graph::{graph_of, Graph};
+use crate::graph::{Graph, graph_of};
 use crate::known::Known;
 use crate::miss::{insts_at, least_miss};
 use crate::refusal::AvailRefusal;
@@ -104,7 +104,7 @@ fn check_opd(
     requires { AreFacts func.now facts.now }
     ensures { Judges (IsAvailableOpd func.now site.block site.position inst.now slot opd.now)
         (λ user number walk. (inst.now.id ≡ user) × (slot ≡ number)
-            × OpdMisses walk func.now site.block site.position inst.now slot opd.now) result }
+        × OpdMisses walk func.now site.block site.position inst.now slot opd.now) result }
 {
     match opd {
         Opd::Val(value) => check_value(alloc, func, facts, site, inst, slot, *value),
@@ -125,13 +125,17 @@ fn check_value(
     requires { AreFacts func.now facts.now }
     ensures { Judges (IsAvailableOpd func.now site.block site.position inst.now slot (Opd.Val value))
         (λ user number walk. (inst.now.id ≡ user) × (slot ≡ number)
-            × OpdMisses walk func.now site.block site.position inst.now slot (Opd.Val value)) result }
+        × OpdMisses walk func.now site.block site.position inst.now slot (Opd.Val value)) result }
 {
     match walk_end(&inst.op, slot, site.block) {
         None => Ok(()),
         Some(end) => {
             let before = before_use(&inst.op, func, end, site.position);
-            judged(inst.id, slot, missed(alloc, func, facts, value, before, end)?)
+            judged(
+                inst.id,
+                slot,
+                missed(alloc, func, facts, value, before, end)?,
+            )
         },
     }
 }
