@@ -1,0 +1,264 @@
+// Small functions with the answers that follow by hand from their graphs, and a large one.
+
+use super::*;
+use ir_types::{Block, Func, Id, Inst, Numbers, Op, Opd, Param, Ty};
+use std::alloc::AllocError;
+use std::process::Abort;
+use vx_list::{Seq, Short};
+
+// what an instruction does to the graph
+#[derive(Clone, Copy)]
+enum Shape {
+    Plain,
+    Br(u32),
+    CondBr(u32, u32),
+    Switch(u32, &'static [u32]),
+    Phi(&'static [u32]),
+    Ret,
+}
+
+use Shape::{Br, CondBr, Phi, Plain, Ret, Switch};
+
+// the id of an instruction, its shape, and the ids that it uses
+type Row = (u32, Shape, &'static [u32]);
+
+// the blocks of a function whose parameter has id 0, and the use and the walk that are wanted
+type Case = (
+    &'static [&'static [Row]],
+    Option<(u32, u32, &'static [u32])>,
+);
+
+const CASES: [Case; 14] = [
+    // only one branch brings the value
+    (
+        &[
+            &[(1, CondBr(1, 2), &[0])],
+            &[(2, Plain, &[]), (3, Br(2), &[])],
+            &[(4, Ret, &[2])],
+        ],
+        Some((4, 0, &[0, 2])),
+    ),
+    // both do, by a value of the entry
+    (
+        &[
+            &[(1, Plain, &[0]), (2, CondBr(1, 2), &[1])],
+            &[(3, Plain, &[1]), (4, Br(2), &[])],
+            &[(5, Ret, &[1])],
+        ],
+        None,
+    ),
+    // a block that no walk reaches uses itself
+    (
+        &[&[(1, Ret, &[])], &[(2, Plain, &[2]), (3, Br(1), &[])]],
+        None,
+    ),
+    // a use before its definition in one block, and of itself
+    (
+        &[&[(1, Plain, &[0, 2]), (2, Plain, &[]), (3, Ret, &[])]],
+        Some((1, 1, &[0])),
+    ),
+    (&[&[(1, Plain, &[1]), (2, Ret, &[])]], Some((1, 0, &[0]))),
+    // carried round a loop by a phi, and used without one on the first way in
+    (
+        &[
+            &[(1, Br(1), &[])],
+            &[
+                (2, Phi(&[0, 1]), &[0, 3]),
+                (3, Plain, &[2]),
+                (4, CondBr(1, 2), &[3]),
+            ],
+            &[(5, Ret, &[3])],
+        ],
+        None,
+    ),
+    (
+        &[
+            &[(1, Br(1), &[])],
+            &[(2, Plain, &[3]), (3, Plain, &[2]), (4, CondBr(1, 2), &[3])],
+            &[(5, Ret, &[3])],
+        ],
+        Some((2, 0, &[0, 1])),
+    ),
+    // a phi's use stands at the end of its incoming block
+    (
+        &[
+            &[(1, CondBr(1, 2), &[0])],
+            &[(2, Plain, &[]), (3, Br(2), &[])],
+            &[(4, Phi(&[0, 1]), &[0, 2]), (5, Ret, &[4])],
+        ],
+        None,
+    ),
+    (
+        &[
+            &[(1, CondBr(1, 2), &[0])],
+            &[(2, Plain, &[]), (3, Br(2), &[])],
+            &[(4, Phi(&[1, 0]), &[0, 2]), (5, Ret, &[4])],
+        ],
+        Some((4, 1, &[0])),
+    ),
+    // two edges from one block into another, by a branch and by a switch
+    (
+        &[
+            &[(1, Plain, &[]), (2, CondBr(1, 1), &[0])],
+            &[(3, Ret, &[1])],
+        ],
+        None,
+    ),
+    (
+        &[
+            &[(1, Switch(2, &[1, 2, 1]), &[0])],
+            &[(2, Plain, &[]), (3, Br(3), &[])],
+            &[(4, Br(3), &[])],
+            &[(5, Ret, &[2])],
+        ],
+        Some((5, 0, &[0, 2, 3])),
+    ),
+    // of two shortest walks the least is named, and a longer one is not
+    (
+        &[
+            &[(1, CondBr(4, 3), &[0])],
+            &[(2, Plain, &[]), (3, Br(2), &[])],
+            &[(4, Ret, &[2])],
+            &[(5, CondBr(2, 1), &[0])],
+            &[(6, Switch(3, &[2, 1]), &[0])],
+        ],
+        Some((4, 0, &[0, 3, 2])),
+    ),
+    // nothing defines it; a parameter is always there
+    (
+        &[&[(1, Plain, &[0, 9]), (2, Ret, &[0])]],
+        Some((1, 1, &[0])),
+    ),
+    // the first use in order of text, though a later one has a shorter walk
+    (
+        &[
+            &[(1, CondBr(1, 2), &[0])],
+            &[(2, Ret, &[3])],
+            &[(3, Ret, &[2])],
+        ],
+        Some((2, 0, &[0, 1])),
+    ),
+];
+
+#[test]
+fn small_functions_are_judged(rt: HostRuntime) -> Result<(), AllocError> {
+    let alloc = rt.alloc();
+    for (blocks, want) in CASES {
+        let mut list = Vec::new(alloc);
+        for rows in blocks {
+            list.push(block(alloc, rows)?)?;
+        }
+        let m = module(alloc, list)?;
+        match (check(alloc, &m), want) {
+            (Ok(()), None) => {},
+            (Err(AvailRefusal::NotAvailable { user, slot, walk }), Some((k, number, blocks))) => {
+                assert_eq!(rt; (user.region, user.k, slot), (0, k, number), "another use");
+                assert!(rt; walk.as_slice() == blocks, "another walk to {k}");
+            },
+            (Err(AvailRefusal::OutOfMemory), _) => return Err(AllocError),
+            (_, _) => panic!(rt; "a wrong verdict"),
+        }
+    }
+    Ok(())
+}
+
+// 4,096 blocks of 16 values in a chain with a way back from each to the second, every value used in the next block
+#[test]
+fn a_large_function_is_judged(rt: HostRuntime) -> Result<(), AllocError> {
+    let alloc = rt.alloc();
+    let mut list = Vec::new(alloc);
+    for number in 0u32..4096 {
+        let mut insts = Seq::new(alloc);
+        for place in 0u32..15 {
+            let k = number * 16 + place;
+            let used = if number == 0 { 0 } else { k - 15 };
+            insts.push(inst(alloc, (k + 1, Plain, &[]), &[used])?)?;
+        }
+        let last = if number == 4095 {
+            Ret
+        } else {
+            CondBr(number + 1, 1)
+        };
+        insts.push(inst(alloc, (number * 16 + 16, last, &[]), &[0])?)?;
+        list.push(Block { name: None, insts })?;
+    }
+    let m = module(alloc, list)?;
+    match check(alloc, &m) {
+        Ok(()) => Ok(()),
+        Err(AvailRefusal::OutOfMemory) => Err(AllocError),
+        Err(AvailRefusal::NotAvailable { .. }) => panic!(rt; "a wrong verdict"),
+    }
+}
+
+fn module(alloc: Global, blocks: Vec<Block>) -> Result<Module, AllocError> {
+    let mut params = Seq::new(alloc);
+    params.push(Param {
+        id: Id { region: 0, k: 0 },
+        name: None,
+        ty: Ty::Int(1),
+        attrs: Seq::new(alloc),
+        noalias: false,
+    })?;
+    let func = Func {
+        before: Seq::new(alloc),
+        ret: Ty::Void,
+        name: Seq::new(alloc),
+        params,
+        after: Seq::new(alloc),
+        blocks: Seq::from_vec(blocks),
+    };
+    let mut items = Seq::new(alloc);
+    items.push(Item::Kept(Seq::new(alloc)))?;
+    items.push(Item::Func(func))?;
+    Ok(Module {
+        items,
+        globals: Seq::new(alloc),
+        big_endian_line: None,
+    })
+}
+
+fn block(alloc: Global, rows: &[Row]) -> Result<Block, AllocError> {
+    let mut insts = Seq::new(alloc);
+    for row in rows {
+        insts.push(inst(alloc, *row, row.2)?)?;
+    }
+    Ok(Block { name: None, insts })
+}
+
+fn inst(alloc: Global, row: Row, uses: &[u32]) -> Result<Inst, AllocError> {
+    let mut opds = Short::new(alloc);
+    for k in uses {
+        opds.push(Opd::Val(Id { region: 0, k: *k }))?;
+    }
+    Ok(Inst {
+        id: Id {
+            region: 0,
+            k: row.0,
+        },
+        name: None,
+        ty: Ty::Int(1),
+        op: op(alloc, row.1)?,
+        opds,
+    })
+}
+
+fn op(alloc: Global, shape: Shape) -> Result<Op, AllocError> {
+    match shape {
+        Plain => Ok(Op::Select),
+        Br(to) => Ok(Op::Br { to }),
+        CondBr(yes, no) => Ok(Op::CondBr { yes, no }),
+        Switch(other, to) => Ok(Op::Switch {
+            other,
+            cases: Short::new(alloc),
+            to: numbers(alloc, to)?,
+        }),
+        Phi(blocks) => Ok(Op::Phi {
+            blocks: numbers(alloc, blocks)?,
+        }),
+        Ret => Ok(Op::Ret),
+    }
+}
+
+fn numbers(alloc: Global, list: &[u32]) -> Result<Numbers, AllocError> {
+    Ok(Seq::from_vec(Vec::from_slice(alloc, list)?))
+}
