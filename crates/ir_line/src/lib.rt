@@ -1,0 +1,20 @@
+//! The form of one line of the module text: its tokens read as a label, an instruction, a header or a kept line.
+//!
+//! The entry points are `body_line`, for a line inside a function, and `module_line`, for a line outside.
+#![tactic(auto)]
+
+mod draft;
+mod head;
+mod kept;
+mod line;
+mod refusal;
+mod stmt;
+mod written;
+
+pub use draft::{Body, Draft, DraftItem, DraftItems, Numbered};
+pub use head::Head;
+pub use kept::Kept;
+pub use line::Line;
+pub use refusal::LineRefusal;
+pub use stmt::Stmt;
+pub use written::{Arg, Args, Written};
