@@ -3,12 +3,23 @@
 //! The entry points are `body_line`, for a line inside a function, and `module_line`, for a line outside.
 #![tactic(auto)]
 
+mod act_lines;
 mod draft;
+mod flags;
 mod head;
 mod kept;
+mod kinds;
 mod line;
+mod literals;
+mod opcode;
+mod operands;
+mod pairs;
 mod refusal;
 mod stmt;
+mod types;
+mod value_lines;
+mod values;
+mod words;
 mod written;
 
 pub use draft::{Body, Draft, DraftItem, DraftItems, Numbered};
