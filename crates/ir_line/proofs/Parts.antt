@@ -215,7 +215,7 @@ lanes_shorter (pieces.Lanes n w ls ts rest s) = row_shorter s
 -- operands
 
 -- what is no local: where the first byte is not `%`
-no_local : (f : List ℕ → Type 0) (word : List ℕ) → ((bs : List ℕ) → f (37 ∷ bs) → local_of (37 ∷ bs) ≡ None) → f word → local_of word ≡ None
+pub no_local : (f : List ℕ → Type 0) (word : List ℕ) → ((bs : List ℕ) → f (37 ∷ bs) → local_of (37 ∷ bs) ≡ None) → f word → local_of word ≡ None
 unfolding local_of
 no_local f [] never h = refl
 no_local f (b ∷ bs) never h = here (nat_eq b 37) refl where

@@ -1,7 +1,11 @@
 -- What a line spells.
+pub mod Answers
+pub mod Body
 pub mod Forms
 pub mod Grammar
+pub mod Keeping
 pub mod Kinds
+pub mod Layout
 pub mod Pieces
 pub mod Reading
 pub mod Values

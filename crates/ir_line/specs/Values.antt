@@ -155,8 +155,11 @@ act_word Br = codes "br"
 act_word Switch = codes "switch"
 act_word Unreachable = codes "unreachable"
 
+abbrev pub acts : List Act
+acts = Store ∷ Ret ∷ Br ∷ Switch ∷ Unreachable ∷ []
+
 unfoldable pub act_of : List ℕ → Option Act
-act_of t = by_word act_word (Store ∷ Ret ∷ Br ∷ Switch ∷ Unreachable ∷ []) t
+act_of t = by_word act_word acts t
 
 -- the words of comparisons
 abbrev pub pred_word : Pred → List ℕ
@@ -171,8 +174,11 @@ pred_word Sge = codes "sge"
 pred_word Slt = codes "slt"
 pred_word Sle = codes "sle"
 
+abbrev pub preds : List Pred
+preds = Eq ∷ Ne ∷ Ugt ∷ Uge ∷ Ult ∷ Ule ∷ Sgt ∷ Sge ∷ Slt ∷ Sle ∷ []
+
 unfoldable pub pred_of : List ℕ → Option Pred
-pred_of t = by_word pred_word (Eq ∷ Ne ∷ Ugt ∷ Uge ∷ Ult ∷ Ule ∷ Sgt ∷ Sge ∷ Slt ∷ Sle ∷ []) t
+pred_of t = by_word pred_word preds t
 
 -- the highest and the least number of 8 bits, and those next to them
 highest : lane_of 8 (codes "255") ≡ Some (Some 255)

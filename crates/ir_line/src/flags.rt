@@ -100,7 +100,7 @@ pub(crate) fn flags<'a>(set: FlagSet, line: &'a [u8], tokens: &'a [Token]) -> Re
 }
 
 /// So many tokens at the front, and the rest.
-fn split<'a>(line: &'a [u8], tokens: &'a [Token], count: usize) -> (&'a [Token], &'a [Token])
+pub(crate) fn split<'a>(line: &'a [u8], tokens: &'a [Token], count: usize) -> (&'a [Token], &'a [Token])
     requires { count ≤ length tokens.now }
     ensures { (words line.now result.0.now, words line.now result.1.now) ≡ reading.split count (words line.now tokens.now) }
 {

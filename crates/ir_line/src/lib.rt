@@ -4,11 +4,14 @@
 #![tactic(auto)]
 
 mod act_lines;
+mod body;
 mod draft;
 mod flags;
 mod head;
+mod keeping;
 mod kept;
 mod kinds;
+mod layout;
 mod line;
 mod literals;
 mod opcode;
@@ -22,6 +25,7 @@ mod values;
 mod words;
 mod written;
 
+pub use body::body_line;
 pub use draft::{Body, Draft, DraftItem, DraftItems, Numbered};
 pub use head::Head;
 pub use kept::Kept;

@@ -222,14 +222,14 @@ pub(crate) fn symbol_of(alloc: Global, word: &[u8]) -> Result<Bytes, Stop>
 
 /// Whether a byte may begin a plain name.
 #[tactic(auto, unfolding(ir_lex::specs::Bytes::begins_name))]
-fn begins_name(byte: u8) -> bool
+pub(crate) fn begins_name(byte: u8) -> bool
     ensures { result ≡ begins_name byte }
 {
     byte.is_ascii_alphabetic() || byte == b'-' || byte == b'$' || byte == b'.' || byte == b'_'
 }
 
 /// Whether all bytes are digits.
-fn all_digits(bytes: &[u8]) -> bool
+pub(crate) fn all_digits(bytes: &[u8]) -> bool
     ensures { result ≡ list_all is_ascii_digit bytes.now }
 {
     bytes.iter().all(|byte| byte.is_ascii_digit())
