@@ -2,6 +2,7 @@ pub mod Answering
 pub mod BodyLines
 pub mod FlagWords
 pub mod Lists
+pub mod OutsideLines
 pub mod Parts
 pub mod Places
 pub mod Steps

@@ -30,7 +30,7 @@ fn is_name(bytes: &[u8]) -> bool
 }
 
 /// Whether bytes are digits.
-fn is_digits(bytes: &[u8]) -> bool
+pub(crate) fn is_digits(bytes: &[u8]) -> bool
     ensures { result ≡ keeping.is_digits bytes.now }
 {
     match bytes {

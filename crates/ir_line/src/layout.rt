@@ -7,7 +7,7 @@ ghost use Rattle.std.specs.List.{prefix_len};
 ghost use Rattle.ir_lex.specs.Words.{words};
 ghost use Rattle.ir_line.specs.Layout as layout;
 
-use crate::values::number_of;
+use crate::values::number;
 use ir_lex::{Token, text};
 
 /// Whether a part of the string ends here.
@@ -50,9 +50,9 @@ fn is_other_size(bytes: &[u8]) -> bool
     ensures { result ≡ layout.is_other_size bytes.now }
 {
     let field = bytes.split_at(field_len(bytes)).0;
-    match number_of(field) {
-        Ok(size) => size != 64,
-        Err(_) => true,
+    match number(field) {
+        Some(size) => size != 64,
+        None => true,
     }
 }
 

@@ -6,6 +6,7 @@ ghost use Rattle.std.specs.Prelude.{◌≡◌, ◌*◌, ◌-◌, ◌^◌, ◌<�
 ghost use Rattle.std.specs.Char.{is_ascii_digit};
 ghost use Rattle.std.specs.List.{list_all};
 ghost use Rattle.ir_lex.specs.Bytes.{begins_name};
+ghost use Rattle.ir_line.specs.Keeping.{is_some};
 ghost use Rattle.ir_line.specs.Words.{Gives, when};
 ghost use Rattle.ir_line.specs.Values as values;
 
@@ -38,20 +39,27 @@ pub(crate) fn width_of(word: &[u8]) -> Result<u8, Stop>
     Err(Stop::NotALine)
 }
 
-/// A number by its value, below 2^64.
+/// A number by its value, below 2^64, if a word is one.
 #[tactic(auto, unfolding(crate::specs::Values::number_of))]
-pub(crate) fn number_of(word: &[u8]) -> Result<u64, Stop>
-    ensures { Gives (λ x. x) result (values.number_of word.now) }
+pub(crate) fn number(word: &[u8]) -> Option<u64>
+    ensures { result ≡ values.number_of word.now }
 {
     match word {
-        [] => Err(Stop::NotALine),
+        [] => None,
         _ => number_from(word),
     }
 }
 
+/// A number by its value, below 2^64.
+pub(crate) fn number_of(word: &[u8]) -> Result<u64, Stop>
+    ensures { Gives (λ x. x) result (values.number_of word.now) }
+{
+    number(word).ok_or(Stop::NotALine)
+}
+
 /// The number of these digits.
-fn number_from(word: &[u8]) -> Result<u64, Stop>
-    ensures { Gives (λ x. x) result (values.number_from 0 word.now) }
+fn number_from(word: &[u8]) -> Option<u64>
+    ensures { result ≡ values.number_from 0 word.now }
 {
     let mut n: u64 = 0;
     let mut rest = word;
@@ -59,19 +67,19 @@ fn number_from(word: &[u8]) -> Result<u64, Stop>
         n = one_more(n, *digit)?;
         rest = after;
     }
-    Ok(n)
+    Some(n)
 }
 
 /// The number with one more digit.
 #[tactic(auto, unfolding(crate::specs::Values::one_more))]
-fn one_more(n: u64, digit: u8) -> Result<u64, Stop>
-    ensures { Gives (λ x. x) result (values.one_more n digit) }
+fn one_more(n: u64, digit: u8) -> Option<u64>
+    ensures { result ≡ values.one_more n digit }
 {
     if !digit.is_ascii_digit() {
-        return Err(Stop::NotALine);
+        return None;
     }
     let more = u128::from(n) * 10 + u128::from(digit - b'0');
-    if more < 1 << 64 { Ok(more as u64) } else { Err(Stop::NotALine) }
+    if more < 1 << 64 { Some(more as u64) } else { None }
 }
 
 /// An align: a power of two from 1 to 2^32.
@@ -217,6 +225,17 @@ pub(crate) fn symbol_of(alloc: Global, word: &[u8]) -> Result<Bytes, Stop>
     match word {
         [b'@', name @ ..] => unquoted(alloc, name),
         _ => Err(Stop::NotALine),
+    }
+}
+
+/// Whether a word is a plain symbol.
+#[tactic(auto, unfolding(crate::specs::Values::symbol_of))]
+pub(crate) fn is_plain(word: &[u8]) -> bool
+    ensures { result ≡ is_some (values.symbol_of word.now) }
+{
+    match word {
+        [b'@', first, ..] => *first != b'"',
+        _ => false,
     }
 }
 
