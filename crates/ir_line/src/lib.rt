@@ -1,0 +1,40 @@
+//! The form of one line of the module text: its tokens read as a label, an instruction, a header or a kept line.
+//!
+//! The entry points are `body_line`, for a line inside a function, and `module_line`, for a line outside.
+#![tactic(auto)]
+
+mod act_lines;
+mod body;
+mod draft;
+mod flags;
+mod head;
+mod headers;
+mod keeping;
+mod kept;
+mod kinds;
+mod laws;
+mod layout;
+mod line;
+mod literals;
+mod opcode;
+mod operands;
+mod outside;
+mod pairs;
+mod refusal;
+mod stmt;
+mod types;
+mod value_lines;
+mod values;
+mod words;
+mod written;
+
+pub use body::body_line;
+pub use draft::{Body, Draft, DraftItem, DraftItems, Numbered};
+pub use head::Head;
+pub use kept::Kept;
+pub use laws::{one_body_form, one_outside_form};
+pub use line::Line;
+pub use outside::module_line;
+pub use refusal::LineRefusal;
+pub use stmt::Stmt;
+pub use written::{Arg, Args, Written};

@@ -1,0 +1,63 @@
+//! A line outside functions.
+//!
+//! The entry point is `module_line`.
+
+ghost use Rattle.std.specs.Prelude.{◌≡◌, ◌≤◌, length, IfOk, IfErr, Option, Some};
+ghost use Rattle.ir_lex.specs.Tokens.{Lexed};
+ghost use Rattle.ir_line.specs.Words.{Gives};
+ghost use Rattle.ir_line.specs.Outside as outside;
+ghost use Rattle.ir_line.specs.Answers.{Answers, IsNumbered};
+ghost use Rattle.ir_line.specs.declared.line.Line.{Line};
+
+use crate::body::numbered;
+use crate::headers::{ends_open, header};
+use crate::keeping::{first_symbol, is_kept, kept};
+use crate::refusal::Stop;
+use crate::words::is_first;
+use crate::{Line, LineRefusal};
+use ir_lex::{Token, Tokens};
+use std::alloc::Global;
+
+/// Whether a line is the first of a function.
+fn is_define(line: &[u8], tokens: &[Token]) -> bool
+    ensures { result ≡ outside.is_define line.now tokens.now }
+{
+    is_first(line, tokens, b"define") && ends_open(line, tokens)
+}
+
+/// A line outside functions.
+#[tactic(auto, unfolding(crate::specs::Outside::read_outside))]
+fn read_outside(alloc: Global, line: &[u8], tokens: &[Token]) -> Result<Line, Stop>
+    ensures { Gives (λ x. x) result (outside.read_outside line.now tokens.now) }
+{
+    if tokens.is_empty() {
+        return Ok(Line::Empty);
+    }
+    if is_kept(line, tokens) {
+        return Ok(Line::Kept(kept(alloc, line, tokens)?));
+    }
+    if is_define(line, tokens) {
+        let name = first_symbol(alloc, line, tokens)?;
+        let head = header(alloc, line, tokens)?;
+        return Ok(Line::Define { name, head });
+    }
+    Err(Stop::NotALine)
+}
+
+/// The form of a line outside functions.
+///
+/// `t` are the tokens of `line`, and `number` is the line's number, from 1, which goes into the refusal alone. A `define` line's
+/// header is missing where it is outside the profile; that is no refusal.
+///
+/// Refusals: `NotALine` with the number, where the line is neither empty, nor kept, nor a `define` line that ends with `{`;
+/// `OutOfMemory`.
+///
+/// LLVM Language Reference, "Module Structure" and "Functions".
+pub fn module_line(alloc: Global, line: &[u8], t: &Tokens, number: u32) -> Result<Line, LineRefusal>
+    requires { Lexed line.now t.now }
+    ensures found { IfOk result (outside.Spells line.now t.now) }
+    ensures only { (l : Line) → outside.Spells line.now t.now l → Answers result (Some l) }
+    ensures number { IfErr result (IsNumbered number) }
+{
+    numbered(read_outside(alloc, line, t.as_slice()), number)
+}

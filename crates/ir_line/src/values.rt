@@ -1,0 +1,268 @@
+//! What one word says by itself: a width, a number, a lane, a name.
+//!
+//! Each reader stops where the word says no such thing.
+
+ghost use Rattle.std.specs.Prelude.{◌≡◌, ◌*◌, ◌-◌, ◌^◌, ◌<◌, ◌≤◌, IfOk, nat_le};
+ghost use Rattle.std.specs.Char.{is_ascii_digit};
+ghost use Rattle.std.specs.List.{list_all};
+ghost use Rattle.ir_lex.specs.Bytes.{begins_name};
+ghost use Rattle.ir_line.specs.Keeping.{is_some};
+ghost use Rattle.ir_line.specs.Words.{Gives, when};
+ghost use Rattle.ir_line.specs.Values as values;
+
+use crate::refusal::Stop;
+use crate::words::is;
+use ir_types::Bytes;
+use std::alloc::{AllocError, Global};
+use vx_num::Lane;
+
+/// The bits of an integer type.
+#[tactic(auto, unfolding(crate::specs::Values::width_of))]
+pub(crate) fn width_of(word: &[u8]) -> Result<u8, Stop>
+    ensures { Gives (λ x. x) result (values.width_of word.now) }
+{
+    if is(word, b"i1") {
+        return Ok(1);
+    }
+    if is(word, b"i8") {
+        return Ok(8);
+    }
+    if is(word, b"i16") {
+        return Ok(16);
+    }
+    if is(word, b"i32") {
+        return Ok(32);
+    }
+    if is(word, b"i64") {
+        return Ok(64);
+    }
+    Err(Stop::NotALine)
+}
+
+/// A number by its value, below 2^64, if a word is one.
+#[tactic(auto, unfolding(crate::specs::Values::number_of))]
+pub(crate) fn number(word: &[u8]) -> Option<u64>
+    ensures { result ≡ values.number_of word.now }
+{
+    match word {
+        [] => None,
+        _ => number_from(word),
+    }
+}
+
+/// A number by its value, below 2^64.
+pub(crate) fn number_of(word: &[u8]) -> Result<u64, Stop>
+    ensures { Gives (λ x. x) result (values.number_of word.now) }
+{
+    number(word).ok_or(Stop::NotALine)
+}
+
+/// The number of these digits.
+fn number_from(word: &[u8]) -> Option<u64>
+    ensures { result ≡ values.number_from 0 word.now }
+{
+    let mut n: u64 = 0;
+    let mut rest = word;
+    'each: while let [digit, after @ ..] = rest {
+        n = one_more(n, *digit)?;
+        rest = after;
+    }
+    Some(n)
+}
+
+/// The number with one more digit.
+#[tactic(auto, unfolding(crate::specs::Values::one_more))]
+fn one_more(n: u64, digit: u8) -> Option<u64>
+    ensures { result ≡ values.one_more n digit }
+{
+    if !digit.is_ascii_digit() {
+        return None;
+    }
+    let more = u128::from(n) * 10 + u128::from(digit - b'0');
+    if more < 1 << 64 { Some(more as u64) } else { None }
+}
+
+/// An align: a power of two from 1 to 2^32.
+#[tactic(auto, unfolding(crate::specs::Values::align_of))]
+pub(crate) fn align_of(word: &[u8]) -> Result<u64, Stop>
+    ensures { Gives (λ x. x) result (values.align_of word.now) }
+{
+    let n = number_of(word)?;
+    if n.is_power_of_two() && n <= 1 << 32 { Ok(n) } else { Err(Stop::NotALine) }
+}
+
+/// A number, where it has `w` bits.
+#[tactic(auto, unfolding(crate::specs::Values::fitting))]
+fn fitting(w: u8, n: u64) -> Result<u64, Stop>
+    ensures { Gives (λ x. x) result (values.fitting w n) }
+{
+    if w > 64 {
+        return Err(Stop::NotALine);
+    }
+    if u128::from(n) < 1u128 << w { Ok(n) } else { Err(Stop::NotALine) }
+}
+
+/// A number with a minus, in two's complement of `w` bits, where it is not below the least.
+#[tactic(auto, unfolding(crate::specs::Values::negative))]
+fn negative(w: u8, n: u64) -> Result<u64, Stop>
+    ensures { Gives (λ x. x) result (values.negative w n) }
+{
+    if w > 64 {
+        return Err(Stop::NotALine);
+    }
+    if n == 0 {
+        return Ok(0);
+    }
+    below(1u128 << w, n)
+}
+
+/// How far `n` is below `all`, where it is at most half of that.
+fn below(all: u128, n: u64) -> Result<u64, Stop>
+    requires wide { all ≤ 2 ^ 64 }
+    requires some { 0 < n }
+    ensures { Gives (λ x. x) result (when (nat_le (2 * n) all) (all - n)) }
+{
+    if 2 * u128::from(n) <= all { Ok((all - u128::from(n)) as u64) } else { Err(Stop::NotALine) }
+}
+
+/// A signed decimal of `w` bits.
+#[tactic(auto, unfolding(crate::specs::Values::decimal_of))]
+fn decimal_of(w: u8, word: &[u8]) -> Result<u64, Stop>
+    ensures { Gives (λ x. x) result (values.decimal_of w word.now) }
+{
+    match word {
+        [] => Err(Stop::NotALine),
+        [b'-', digits @ ..] => negative(w, number_of(digits)?),
+        _ => fitting(w, number_of(word)?),
+    }
+}
+
+/// A number of `w` bits; of one bit also a truth value.
+#[tactic(auto, unfolding(crate::specs::Values::bits_number))]
+pub(crate) fn bits_number(w: u8, word: &[u8]) -> Result<u64, Stop>
+    ensures { Gives (λ x. x) result (values.bits_number w word.now) }
+{
+    if is(word, b"true") && w == 1 {
+        return Ok(1);
+    }
+    if is(word, b"false") && w == 1 {
+        return Ok(0);
+    }
+    decimal_of(w, word)
+}
+
+/// A lane of `w` bits.
+#[tactic(auto, unfolding(crate::specs::Values::lane_of))]
+pub(crate) fn lane_of(w: u8, word: &[u8]) -> Result<Lane, Stop>
+    ensures { Gives (λ x. x) result (values.lane_of w word.now) }
+{
+    if is(word, b"poison") {
+        return Ok(None);
+    }
+    let n = bits_number(w, word)?;
+    Ok(Some(n))
+}
+
+/// A copy of bytes.
+pub(crate) fn copied(alloc: Global, bytes: &[u8]) -> Result<Bytes, AllocError>
+    ensures { IfOk result (λ x. x ≡ bytes.now) }
+{
+    Ok(Bytes::from_vec(Vec::from_slice(alloc, bytes)?))
+}
+
+/// Digits without their leading zeros.
+fn plain_number(digits: &[u8]) -> &[u8]
+    ensures { result.now ≡ values.plain_number digits.now }
+{
+    let mut rest = digits;
+    'each: while let [b'0', after @ ..] = rest {
+        if after.is_empty() {
+            return rest;
+        }
+        rest = after;
+    }
+    rest
+}
+
+/// The name behind `%`.
+#[tactic(auto, unfolding(crate::specs::Values::named))]
+fn named(alloc: Global, name: &[u8]) -> Result<Bytes, Stop>
+    ensures { Gives (λ x. x) result (values.named name.now) }
+{
+    match name {
+        [] | [b'"', ..] => Err(Stop::NotALine),
+        [first, ..] if first.is_ascii_digit() => Ok(copied(alloc, plain_number(name))?),
+        _ => Ok(copied(alloc, name)?),
+    }
+}
+
+/// The name of a local.
+#[tactic(auto, unfolding(crate::specs::Values::local_of))]
+pub(crate) fn local_of(alloc: Global, word: &[u8]) -> Result<Bytes, Stop>
+    ensures { Gives (λ x. x) result (values.local_of word.now) }
+{
+    match word {
+        [b'%', name @ ..] => named(alloc, name),
+        _ => Err(Stop::NotALine),
+    }
+}
+
+/// A name that is not quoted.
+fn unquoted(alloc: Global, name: &[u8]) -> Result<Bytes, Stop>
+    ensures { Gives (λ x. x) result (values.unquoted name.now) }
+{
+    match name {
+        [] | [b'"', ..] => Err(Stop::NotALine),
+        _ => Ok(copied(alloc, name)?),
+    }
+}
+
+/// The plain name of a symbol.
+#[tactic(auto, unfolding(crate::specs::Values::symbol_of))]
+pub(crate) fn symbol_of(alloc: Global, word: &[u8]) -> Result<Bytes, Stop>
+    ensures { Gives (λ x. x) result (values.symbol_of word.now) }
+{
+    match word {
+        [b'@', name @ ..] => unquoted(alloc, name),
+        _ => Err(Stop::NotALine),
+    }
+}
+
+/// Whether a word is a plain symbol.
+#[tactic(auto, unfolding(crate::specs::Values::symbol_of))]
+pub(crate) fn is_plain(word: &[u8]) -> bool
+    ensures { result ≡ is_some (values.symbol_of word.now) }
+{
+    match word {
+        [b'@', first, ..] => *first != b'"',
+        _ => false,
+    }
+}
+
+/// Whether a byte may begin a plain name.
+#[tactic(auto, unfolding(ir_lex::specs::Bytes::begins_name))]
+pub(crate) fn begins_name(byte: u8) -> bool
+    ensures { result ≡ begins_name byte }
+{
+    byte.is_ascii_alphabetic() || byte == b'-' || byte == b'$' || byte == b'.' || byte == b'_'
+}
+
+/// Whether all bytes are digits.
+pub(crate) fn all_digits(bytes: &[u8]) -> bool
+    ensures { result ≡ list_all is_ascii_digit bytes.now }
+{
+    bytes.iter().all(|byte| byte.is_ascii_digit())
+}
+
+/// The name of a label.
+#[tactic(auto, unfolding(crate::specs::Values::label_of))]
+pub(crate) fn label_of(alloc: Global, word: &[u8]) -> Result<Bytes, Stop>
+    ensures { Gives (λ x. x) result (values.label_of word.now) }
+{
+    match word {
+        [] => Err(Stop::NotALine),
+        [first, ..] if begins_name(*first) => Ok(copied(alloc, word)?),
+        _ if all_digits(word) => Ok(copied(alloc, plain_number(word))?),
+        _ => Err(Stop::NotALine),
+    }
+}
