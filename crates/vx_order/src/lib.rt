@@ -1,0 +1,6 @@
+//! The order of groups.
+#![tactic(auto)]
+
+pub struct Later {
+    pub n: u32,
+}
