@@ -1,5 +1,5 @@
 -- A setting's word shows its key and its number.
-use Rattle.std.proofs.Common.{◌≡◌, ℕ, ◌+◌, ◌<◌, ◌^◌, ◌==◌, List, ◌∷◌, ◌++◌, length, Some, Option, refl, sym, ◌∙◌, subst, arith, find, bytes_eq, slice_get}
+use Rattle.std.proofs.Common.{◌≡◌, ℕ, ◌<◌, ◌^◌, ◌==◌, List, ◌∷◌, ◌++◌, length, Some, Option, refl, sym, ◌∙◌, subst, arith, find, bytes_eq, slice_get}
 use Rattle.std.proofs.lemmas.Fmt.{decimal_injective}
 use Rattle.std.specs.Fmt.{decimal}
 use Rattle.std.specs.List.{position_or_len, before_first, after_first}

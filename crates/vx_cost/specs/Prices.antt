@@ -1,8 +1,7 @@
 -- What an instruction costs, and the price of a list of instructions.
 use Rattle.std.specs.Prelude.{ℕ, ◌-◌, ◌^◌, Bool, true, false, cond, List, Option, Some, None, sum_by, slice_index, min}
-
 use Rattle.vx_num.specs.declared.operations.BinOp.{BinOp}
-use Rattle.vx_num.specs.declared.operations.BinOp.TheVariants.{Add, Sub, Mul, Shl, Udiv, Sdiv, Urem, Srem, Lshr, Ashr, And, Or, Xor}
+use Rattle.vx_num.specs.declared.operations.BinOp.TheVariants.{Mul, Udiv, Sdiv, Urem, Srem}
 use Rattle.ir_types.specs.declared.ty.Ty.{Ty}
 use Rattle.ir_types.specs.declared.ty.Ty.TheVariants.{Row}
 use Rattle.ir_types.specs.declared.op.Op.{Op}

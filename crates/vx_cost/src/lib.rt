@@ -15,3 +15,6 @@ mod settings;
 pub use prices::price;
 pub use refusal::SettingRefusal;
 pub use settings::with_settings;
+
+#[cfg(test)]
+mod tests;

@@ -31,8 +31,10 @@ pub fn with_settings(t: Table, words: &[String]) -> Result<Table, SettingRefusal
     requires few { length words.now + 1 < 2 ^ 32 }
     ensures ok { IfOk result (IsTableWith (map string_bytes words.now) t) }
     ensures good { IsOk result ↔ ((k : ℕ) → IsFaultyAt (map string_bytes words.now) k → ⊥) }
-    ensures bad { (k : ℕ) → ((result ≡ Err (SettingRefusal.BadSetting k)) ↔ (IsFirstFault (map string_bytes words.now) k × IsBadAt (map string_bytes words.now) k)) }
-    ensures twice { (k : ℕ) → ((result ≡ Err (SettingRefusal.TwiceSet k)) ↔ (IsFirstFault (map string_bytes words.now) k × IsTwiceAt (map string_bytes words.now) k)) }
+    ensures bad { (k : ℕ) → ((result ≡ Err (SettingRefusal.BadSetting k))
+        ↔ (IsFirstFault (map string_bytes words.now) k × IsBadAt (map string_bytes words.now) k)) }
+    ensures twice { (k : ℕ) → ((result ≡ Err (SettingRefusal.TwiceSet k))
+        ↔ (IsFirstFault (map string_bytes words.now) k × IsTwiceAt (map string_bytes words.now) k)) }
 {
     let mut table = t;
     let mut taken = [false; 20];

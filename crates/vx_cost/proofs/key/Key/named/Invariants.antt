@@ -8,5 +8,5 @@ use Rattle.vx_cost.proofs.key.Key.named.Given as goal
 abbrev pub invariant-loop-key : goal.invariant-loop-key
 invariant-loop-key l = record {
   all : l.key-items ≡ KEYS;
-  passed : (key : Key) → keys.place_of key < l.key-index → keys.name_of key ≡ l.name → ⊥
+  passed : (key : Key) → keys.place_of key < l.key-index → keys.name_of key ≡ l.name → ⊥;
 }
