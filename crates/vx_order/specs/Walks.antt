@@ -1,9 +1,14 @@
 -- Counts and ends of links, and what a refusal means for nodes.
-use Rattle.std.specs.Prelude.{◌≡◌, ℕ, ◌==◌, Bool, true, List, Option, None, All, map, filter, count_by}
+use Rattle.std.specs.Prelude.{◌≡◌, ℕ, ◌+◌, ◌≤◌, ◌==◌, [], ◌∷◌, Bool, true, List, Option, None, All, map, filter, count_by}
 use Rattle.vx_order.specs.Groups.{has}
 use Rattle.vx_order.specs.Order.{order_on, IsCycle}
 use Rattle.vx_order.specs.declared.refusal.OrderRefusal.{OrderRefusal}
 use Rattle.vx_order.specs.declared.refusal.OrderRefusal.TheVariants.{NoOrder, OutOfMemory}
+
+-- these are at least `low`, and each is less than the next
+abbrev pub Ascends : ℕ → List ℕ → Type 0
+Ascends low [] = Unit {0}
+Ascends low (x ∷ xs) = (low ≤ x) × Ascends (x + 1) xs
 
 -- how often a number stands in a list
 abbrev pub tally : ℕ → List ℕ → ℕ

@@ -4,13 +4,12 @@
 //! end is not placed is kept, and the set of the nodes that may come next: those not placed, with the count 0. Where the set is
 //! empty too early no order exists, and a cycle is looked for.
 
-ghost use Rattle.std.specs.Prelude.{◌≡◌, ℕ, ◌+◌, ◌<◌, ◌≤◌, ◌==◌, ◌&&◌, ◌||◌, All, Some, None, IfOk, IfErr, OnOk, true, nat_lt, length, count_by, slice_get, slice_index};
+ghost use Rattle.std.specs.Prelude.{◌≡◌, ℕ, ◌+◌, ◌<◌, ◌≤◌, ◌==◌, ◌&&◌, ◌||◌, All, Some, None, IfOk, IfErr, OnOk, true, nat_lt, length, count_by, slice_index, slice_index_or, []};
 ghost use Rattle.std.specs.Ordering.{nat_cmp};
-ghost use Rattle.std.specs.List.Sorted.{IsStrictlyIncreasing};
 ghost use Rattle.std.specs.BTreeSet.{contains};
 ghost use Rattle.vx_order.specs.Groups.{has};
 ghost use Rattle.vx_order.specs.Order.{order_on};
-ghost use Rattle.vx_order.specs.Walks.{tally, ends_from, RefusesNodes, AreLinks};
+ghost use Rattle.vx_order.specs.Walks.{Ascends, tally, ends_from, RefusesNodes, AreLinks};
 
 use crate::OrderRefusal;
 use crate::cycle::find_cycle;
@@ -25,7 +24,7 @@ pub(crate) fn order(
     nodes: &[u32],
     links: &[(u32, u32)],
 ) -> Result<Vec<u32>, OrderRefusal>
-    requires ascending { IsStrictlyIncreasing nodes.now }
+    requires ascending { Ascends 0 nodes.now }
     requires below { All (λ v. v < bound) nodes.now }
     requires links { AreLinks nodes.now links.now }
     ensures below { IfOk result (λ order. All (λ v. v < bound) order.items) }
@@ -36,7 +35,7 @@ pub(crate) fn order(
     let mut counts = open_counts(alloc, bound, links)?;
     let mut ready = starts(alloc, nodes, counts.as_slice())?;
     let mut placed = Vec::with_capacity(alloc, nodes.len())?;
-    for _node in nodes {
+    'each: for _node in nodes {
         let Some(node) = ready.pop_first() else {
             let start = first_open(nodes, counts.as_slice());
             return Err(OrderRefusal::NoOrder {
@@ -52,7 +51,7 @@ pub(crate) fn order(
 /// For each number below `bound` the other ends of the links from it, in their order.
 fn ends(alloc: Global, bound: usize, links: &[(u32, u32)]) -> Result<Vec<Seq<u32>>, AllocError>
     requires { All (λ l. l.0 < bound) links.now }
-    ensures { IfOk result (λ ends. (length ends.items ≡ bound) × ((v : ℕ) → v < bound → slice_get ends.items v ≡ Some (ends_from v links.now))) }
+    ensures { IfOk result (λ ends. (length ends.items ≡ bound) × ((v : ℕ) → slice_index_or ends.items v [] ≡ ends_from v links.now)) }
 {
     let mut ends = Vec::with_capacity(alloc, bound)?;
     'rows: for _row in 0..bound {
@@ -68,7 +67,7 @@ fn ends(alloc: Global, bound: usize, links: &[(u32, u32)]) -> Result<Vec<Seq<u32
 fn open_counts(alloc: Global, bound: usize, links: &[(u32, u32)]) -> Result<Vec<usize>, AllocError>
     requires { All (λ l. l.1 < bound) links.now }
     ensures { IfOk result (λ counts. (length counts.items ≡ bound)
-        × ((v : ℕ) → v < bound → slice_index counts.items v ≡ count_by (λ l. l.1 == v) links.now)) }
+        × ((v : ℕ) → slice_index counts.items v ≡ count_by (λ l. l.1 == v) links.now)) }
 {
     let mut counts = vec![in alloc; 0; bound]?;
     for (_, to) in links {

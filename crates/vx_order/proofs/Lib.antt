@@ -1,0 +1,4 @@
+-- What the proofs of the crate share.
+pub mod Placing
+pub mod Trails
+pub mod Counts
