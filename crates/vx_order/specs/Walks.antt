@@ -24,5 +24,5 @@ AreLinks nodes links = All (λ l. (has nodes l.0 ≡ true) × (has nodes l.1 ≡
 
 -- what a refusal means: the nodes have no order, and those kept are a cycle of links between nodes
 abbrev pub RefusesNodes : List ℕ → List (ℕ × ℕ) → OrderRefusal → Type 0
-RefusesNodes nodes links (NoOrder cycle) = (order_on nodes links ≡ None) × IsCycle links cycle × All (λ v. has nodes v ≡ true) cycle
+RefusesNodes nodes links (NoOrder cycle) = (order_on nodes links ≡ None) × IsCycle links cycle × ((v : ℕ) → has cycle v ≡ true → has nodes v ≡ true)
 RefusesNodes nodes links OutOfMemory = Unit {0}

@@ -21,7 +21,8 @@ pub(crate) fn find_cycle(
     requires ends { All (λ l. (l.0 < length counts.now) × (l.1 < length counts.now)) links.now }
     requires start { (start < length counts.now) × (0 < slice_index counts.now start) }
     requires before { HasOpenBefore links.now counts.now }
-    ensures { IfOk result (λ cycle. IsCycle links.now cycle × All (λ v. 0 < slice_index counts.now v) cycle) }
+    ensures { IfOk result (λ cycle. IsCycle links.now cycle
+        × ((v : ℕ) → has cycle v ≡ true → 0 < slice_index counts.now v)) }
 {
     let before = before_each(alloc, links, counts)?;
     let mut met = vec![in alloc; false; counts.len()]?;

@@ -11,7 +11,7 @@ invariant-loop-met l = record {
   is_open : 0 < slice_index l.counts l.at;
   trail : IsTrail l.links l.at (reverse l.trail.items);
   met : (v : ℕ) → get_or l.met.items v false ≡ true → has l.trail.items v ≡ true;
-  all_open : All (λ v. 0 < slice_index l.counts v) l.trail.items;
+  all_open : (v : ℕ) → has l.trail.items v ≡ true → 0 < slice_index l.counts v;
 }
 
 abbrev pub decreases-loop-met : goal.decreases-loop-met
