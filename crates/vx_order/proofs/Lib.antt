@@ -2,3 +2,4 @@
 pub mod Placing
 pub mod Trails
 pub mod Counts
+pub mod Stuck
