@@ -2,4 +2,5 @@
 pub mod Placing
 pub mod Trails
 pub mod Counts
+pub mod Holding
 pub mod Stuck
