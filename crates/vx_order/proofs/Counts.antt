@@ -33,18 +33,19 @@ pub counted_more : (links : List (ℕ × ℕ)) (counts : List ℕ) (i n v t : �
     → slice_index (set counts (get_or links i (0, 0)).1 (n + 1)) v + count_by (λ e. e.1 == v) (drop (i + 1) links) ≡ t
 counted_more links counts i n v t h w is e =
     let more : count_by (λ e. e.1 == v) (drop i links) ≡ bit ((get_or links i (0, 0)).1 == v) + count_by (λ e. e.1 == v) (drop (i + 1) links)
-      = sum_by-drop_more (λ e. bit (e.1 == v)) links i (0, 0) h in
+    = sum_by-drop_more (λ e. bit (e.1 == v)) links i (0, 0) h in
     let here : slice_index counts (get_or links i (0, 0)).1 ≡ n = at_zero counts (get_or links i (0, 0)).1 n w is in
     elim (one_or_other (get_or links i (0, 0)).1 v) [
-      inl s ↦ (let one : bit ((get_or links i (0, 0)).1 == v) ≡ 1 = ap bit (equal_test (get_or links i (0, 0)).1 v s) in
-        let new : slice_index (set counts (get_or links i (0, 0)).1 (n + 1)) (get_or links i (0, 0)).1 ≡ n + 1 = get_or-set_same counts (get_or links i (0, 0)).1 (n + 1) 0 w in
-        let new_v : slice_index (set counts (get_or links i (0, 0)).1 (n + 1)) v ≡ n + 1 = subst (λ k. slice_index (set counts (get_or links i (0, 0)).1 (n + 1)) k ≡ n + 1) s new in
-        let old_v : slice_index counts v ≡ n = subst (λ k. slice_index counts k ≡ n) s here in
-        omega (arith, more, one, new_v, old_v, e))
-    | inr d ↦ (let none : bit ((get_or links i (0, 0)).1 == v) ≡ 0 = ap bit (apart_test (get_or links i (0, 0)).1 v d) in
-        let other : v ≢ (get_or links i (0, 0)).1 = λ q. d (sym q) in
-        let new_v : slice_index (set counts (get_or links i (0, 0)).1 (n + 1)) v ≡ slice_index counts v = set_apart counts (get_or links i (0, 0)).1 v (n + 1) other in
-        omega (arith, more, none, new_v, e)) ]
+      | inl s ↦ (let one : bit ((get_or links i (0, 0)).1 == v) ≡ 1 = ap bit (equal_test (get_or links i (0, 0)).1 v s) in
+          let new : slice_index (set counts (get_or links i (0, 0)).1 (n + 1)) (get_or links i (0, 0)).1 ≡ n + 1 = get_or-set_same counts (get_or links i (0, 0)).1 (n + 1) 0 w in
+          let new_v : slice_index (set counts (get_or links i (0, 0)).1 (n + 1)) v ≡ n + 1 = subst (λ k. slice_index (set counts (get_or links i (0, 0)).1 (n + 1)) k ≡ n + 1) s new in
+          let old_v : slice_index counts v ≡ n = subst (λ k. slice_index counts k ≡ n) s here in
+          omega (arith, more, one, new_v, old_v, e))
+      | inr d ↦ (let none : bit ((get_or links i (0, 0)).1 == v) ≡ 0 = ap bit (apart_test (get_or links i (0, 0)).1 v d) in
+          let other : v ≢ (get_or links i (0, 0)).1 = λ q. d (sym q) in
+          let new_v : slice_index (set counts (get_or links i (0, 0)).1 (n + 1)) v ≡ slice_index counts v = set_apart counts (get_or links i (0, 0)).1 v (n + 1) other in
+          omega (arith, more, none, new_v, e))
+    ]
 
 -- a count is at most the number of links
 pub counted_below : (links : List (ℕ × ℕ)) (counts : List ℕ) (i n : ℕ) → i < length links → (get_or links i (0, 0)).1 < length counts → n ≡ get_or counts (get_or links i (0, 0)).1 n
@@ -52,7 +53,7 @@ pub counted_below : (links : List (ℕ × ℕ)) (counts : List ℕ) (i n : ℕ) 
     → n + 1 ≤ length links
 counted_below links counts i n h w is e =
     let more : count_by (λ e. e.1 == (get_or links i (0, 0)).1) (drop i links) ≡ bit ((get_or links i (0, 0)).1 == (get_or links i (0, 0)).1) + count_by (λ e. e.1 == (get_or links i (0, 0)).1) (drop (i + 1) links)
-      = sum_by-drop_more (λ e. bit (e.1 == (get_or links i (0, 0)).1)) links i (0, 0) h in
+    = sum_by-drop_more (λ e. bit (e.1 == (get_or links i (0, 0)).1)) links i (0, 0) h in
     let one : bit ((get_or links i (0, 0)).1 == (get_or links i (0, 0)).1) ≡ 1 = ap bit (equal_test (get_or links i (0, 0)).1 (get_or links i (0, 0)).1 refl) in
     let here : slice_index counts (get_or links i (0, 0)).1 ≡ n = at_zero counts (get_or links i (0, 0)).1 n w is in
     omega (arith, more, one, here, e, count_by-le-length (λ e. e.1 == (get_or links i (0, 0)).1) links)
@@ -64,17 +65,18 @@ pub released_more : (ends counts old : List ℕ) (i n : ℕ) → i < length ends
 released_more ends counts old i n h w is pos e v =
     let here : slice_index counts (slice_index ends i) ≡ n = at_zero counts (slice_index ends i) n w is in
     elim (one_or_other (slice_index ends i) v) [
-      inl s ↦ (let yes : (slice_index ends i == v) ≡ true = equal_test (slice_index ends i) v s in
-        let more : tally v (take (i + 1) ends) ≡ tally v (take i ends) + 1 = count_by_more_yes (λ x. x == v) ends i 0 h yes in
-        let new : slice_index (set counts (slice_index ends i) (n - 1)) (slice_index ends i) ≡ n - 1 = get_or-set_same counts (slice_index ends i) (n - 1) 0 w in
-        let new_v : slice_index (set counts (slice_index ends i) (n - 1)) v ≡ n - 1 = subst (λ k. slice_index (set counts (slice_index ends i) (n - 1)) k ≡ n - 1) s new in
-        let old_v : slice_index counts v ≡ n = subst (λ k. slice_index counts k ≡ n) s here in
-        omega (arith, more, new_v, old_v, e v, pos))
-    | inr d ↦ (let no : (slice_index ends i == v) ≡ false = apart_test (slice_index ends i) v d in
-        let more : tally v (take (i + 1) ends) ≡ tally v (take i ends) = count_by_more_no (λ x. x == v) ends i 0 h no in
-        let other : v ≢ slice_index ends i = λ q. d (sym q) in
-        let new_v : slice_index (set counts (slice_index ends i) (n - 1)) v ≡ slice_index counts v = set_apart counts (slice_index ends i) v (n - 1) other in
-        omega (arith, more, new_v, e v)) ]
+      | inl s ↦ (let yes : (slice_index ends i == v) ≡ true = equal_test (slice_index ends i) v s in
+          let more : tally v (take (i + 1) ends) ≡ tally v (take i ends) + 1 = count_by_more_yes (λ x. x == v) ends i 0 h yes in
+          let new : slice_index (set counts (slice_index ends i) (n - 1)) (slice_index ends i) ≡ n - 1 = get_or-set_same counts (slice_index ends i) (n - 1) 0 w in
+          let new_v : slice_index (set counts (slice_index ends i) (n - 1)) v ≡ n - 1 = subst (λ k. slice_index (set counts (slice_index ends i) (n - 1)) k ≡ n - 1) s new in
+          let old_v : slice_index counts v ≡ n = subst (λ k. slice_index counts k ≡ n) s here in
+          omega (arith, more, new_v, old_v, e v, pos))
+      | inr d ↦ (let no : (slice_index ends i == v) ≡ false = apart_test (slice_index ends i) v d in
+          let more : tally v (take (i + 1) ends) ≡ tally v (take i ends) = count_by_more_no (λ x. x == v) ends i 0 h no in
+          let other : v ≢ slice_index ends i = λ q. d (sym q) in
+          let new_v : slice_index (set counts (slice_index ends i) (n - 1)) v ≡ slice_index counts v = set_apart counts (slice_index ends i) v (n - 1) other in
+          omega (arith, more, new_v, e v))
+    ]
 
 count_by-take-le : (p : ℕ → Bool) (i : ℕ) (xs : List ℕ) → count_by p (take i xs) ≤ count_by p xs
 count_by-take-le p i xs = sum_by-take-le (λ x. bit (p x)) xs i
@@ -112,10 +114,12 @@ ready_more ends counts old counts' i v b was now h e f g n = entry_step b was no
 
 pub put_in : (counts : List ℕ) (end v : ℕ) (was now : Bool) → slice_index counts end ≡ 0 → now ≡ cond (is_eq (nat_cmp end v)) true was → now ≡ (was || ((end == v) && (slice_index counts v == 0)))
 put_in counts end v was now z e = elim (one_or_other end v) [
-    inl s ↦ (let zv : slice_index counts v ≡ 0 = subst (λ k. slice_index counts k ≡ 0) s z in grind (arith, nat_tests))
-  | inr d ↦ grind (arith, nat_tests) ]
+  | inl s ↦ (let zv : slice_index counts v ≡ 0 = subst (λ k. slice_index counts k ≡ 0) s z in grind (arith, nat_tests))
+  | inr d ↦ grind (arith, nat_tests)
+]
 
 pub left_out : (counts : List ℕ) (end v : ℕ) (was now : Bool) → (slice_index counts end ≡ 0 → ⊥) → now ≡ was → now ≡ (was || ((end == v) && (slice_index counts v == 0)))
 left_out counts end v was now z e = elim (one_or_other end v) [
-    inl s ↦ (let zv : slice_index counts v ≢ 0 = subst (λ k. slice_index counts k ≢ 0) s z in grind (arith, nat_tests))
-  | inr d ↦ grind (arith, nat_tests) ]
+  | inl s ↦ (let zv : slice_index counts v ≢ 0 = subst (λ k. slice_index counts k ≢ 0) s z in grind (arith, nat_tests))
+  | inr d ↦ grind (arith, nat_tests)
+]

@@ -45,9 +45,10 @@ entry groups g p value old next spec part h low here before is = go (has (get_or
   go : (b : Bool) → has (get_or groups g []) p ≡ b → next ≡ spec p
   go true e = (is ∙ ap (λ b. cond b value old) e) ∙ sym (here (part.once g p (get_or groups g []) (group_at groups g h) e))
   go false e = elim (one_or_other (owner_of groups p) g) [
-      inl s ↦ absurd (let yes : has (get_or groups g []) p ≡ true = subst (λ (n : ℕ). has (get_or groups n []) p ≡ true) s (owner_holds groups p (omega (arith, s, h))) in
+    | inl s ↦ absurd (let yes : has (get_or groups g []) p ≡ true = subst (λ (n : ℕ). has (get_or groups n []) p ≡ true) s (owner_holds groups p (omega (arith, s, h))) in
         let no : has (get_or groups g []) p ≡ false = e in cc)
-    | inr d ↦ (is ∙ ap (λ b. cond b value old) e) ∙ before (omega arith) ]
+    | inr d ↦ (is ∙ ap (λ b. cond b value old) e) ∙ before (omega arith)
+  ]
 
 min_is : (p q : ℕ) → (min p q ≡ p) ⊎ (min p q ≡ q)
 min_is p q = grind arith
@@ -55,10 +56,12 @@ min_is p q = grind arith
 has_least_from : (p : ℕ) (ps : List ℕ) → has (p ∷ ps) (least_from p ps) ≡ true
 has_least_from p [] = at_head p p [] refl
 has_least_from p (q ∷ qs) = elim (head_or_more (min p q) (least_from (min p q) qs) qs (has_least_from (min p q) qs)) [
-    inl e ↦ elim (min_is p q) [
-      inl s ↦ at_head p (least_from (min p q) qs) (q ∷ qs) (sym s ∙ e)
-    | inr s ↦ in_more p (least_from (min p q) qs) (q ∷ qs) (at_head q (least_from (min p q) qs) qs (sym s ∙ e)) ]
-  | inr more ↦ in_more p (least_from (min p q) qs) (q ∷ qs) (in_more q (least_from (min p q) qs) qs more) ]
+  | inl e ↦ elim (min_is p q) [
+    | inl s ↦ at_head p (least_from (min p q) qs) (q ∷ qs) (sym s ∙ e)
+    | inr s ↦ in_more p (least_from (min p q) qs) (q ∷ qs) (at_head q (least_from (min p q) qs) qs (sym s ∙ e))
+  ]
+  | inr more ↦ in_more p (least_from (min p q) qs) (q ∷ qs) (in_more q (least_from (min p q) qs) qs more)
+]
 
 -- a group holds its least member
 has_least : (group : List ℕ) → 0 < length group → has group (least group) ≡ true
@@ -76,12 +79,12 @@ position_own groups p part h =
     let g : owner_of groups p < length groups = part.covered p h in
     let q : position_of groups p ≡ least (get_or groups (owner_of groups p) []) = position_is groups (owner_of groups p) p g refl in
     let member : has (get_or groups (owner_of groups p) []) (position_of groups p) ≡ true
-      = subst (λ (n : ℕ). has (get_or groups (owner_of groups p) []) n ≡ true) (sym q) (has_least (get_or groups (owner_of groups p) []) (part.filled (owner_of groups p) [] g)) in
+    = subst (λ (n : ℕ). has (get_or groups (owner_of groups p) []) n ≡ true) (sym q) (has_least (get_or groups (owner_of groups p) []) (part.filled (owner_of groups p) [] g)) in
     let owner : owner_of groups (position_of groups p) ≡ owner_of groups p = part.once (owner_of groups p) (position_of groups p) (get_or groups (owner_of groups p) []) (group_at groups (owner_of groups p) g) member in
     record {
       within = all_has (λ n. n < size groups) (get_or groups (owner_of groups p) []) (position_of groups p) (part.within (owner_of groups p) [] g) member;
       owner = owner;
-      own = position_is groups (owner_of groups p) (position_of groups p) g owner ∙ sym q
+      own = position_is groups (owner_of groups p) (position_of groups p) g owner ∙ sym q;
     }
 
 -- the entries that are their own places
@@ -90,8 +93,9 @@ fixed_is f at [] e = refl
 fixed_is f at (x ∷ xs) e = go (x == at) refl (fixed_is f (at + 1) xs (λ k h. e (suc k) (omega arith) ∙ ap f (omega arith))) where
   first : x ≡ f at
   first = e zero (omega arith) ∙ ap f (omega arith)
+
   go : (b : Bool) → (x == at) ≡ b → fixed_points (at + 1) xs ≡ filter (λ p. f p == p) (range_with_len (at + 1) (length xs))
-    → cond b (x ∷ fixed_points (at + 1) xs) (fixed_points (at + 1) xs) ≡ cond (f at == at) (at ∷ filter (λ p. f p == p) (range_with_len (at + 1) (length xs))) (filter (λ p. f p == p) (range_with_len (at + 1) (length xs)))
+      → cond b (x ∷ fixed_points (at + 1) xs) (fixed_points (at + 1) xs) ≡ cond (f at == at) (at ∷ filter (λ p. f p == p) (range_with_len (at + 1) (length xs))) (filter (λ p. f p == p) (range_with_len (at + 1) (length xs)))
   go true s rest = (let same : x ≡ at = grind (arith, nat_tests) in let t : (f at == at) ≡ true = subst (λ (n : ℕ). (n == at) ≡ true) first s in rw (t, same, rest) refl)
   go false s rest = (let t : (f at == at) ≡ false = subst (λ (n : ℕ). (n == at) ≡ false) first s in rw (t, rest) refl)
 
@@ -121,16 +125,16 @@ pub position_among : (groups : List (List ℕ)) (p : ℕ) → IsPartition groups
 position_among groups p part h =
     let own : IsPositionOf groups p (position_of groups p) = position_own groups p part h in
     range_has (λ v. position_of groups v == v) 0 (size groups) (position_of groups p) (omega arith) (omega (arith, own.within)) (equal (position_of groups (position_of groups p)) (position_of groups p) own.own) where
-  equal : (a b : ℕ) → a ≡ b → (a == b) ≡ true
-  equal a b e = grind (arith, nat_tests)
+      equal : (a b : ℕ) → a ≡ b → (a == b) ≡ true
+      equal a b e = grind (arith, nat_tests)
 
 pub are_links : (groups : List (List ℕ)) (edges : List (ℕ × ℕ)) → IsPartition groups → All (λ e. (e.0 < size groups) × (e.1 < size groups)) edges → AreLinks (positions groups) (links_of groups edges)
 are_links groups [] part all = λ k d h. absurd (omega arith)
 are_links groups (e ∷ es) part all =
     let ends : (e.0 < size groups) × (e.1 < size groups) = All-head (λ e. (e.0 < size groups) × (e.1 < size groups)) e es all in
     All-cons (λ l. (has (positions groups) l.0 ≡ true) × (has (positions groups) l.1 ≡ true)) (position_of groups e.0, position_of groups e.1) (links_of groups es)
-      (position_among groups e.0 part ends.0, position_among groups e.1 part ends.1)
-      (are_links groups es part (All-tail (λ e. (e.0 < size groups) × (e.1 < size groups)) e es all))
+    (position_among groups e.0 part ends.0, position_among groups e.1 part ends.1)
+    (are_links groups es part (All-tail (λ e. (e.0 < size groups) × (e.1 < size groups)) e es all))
 
 -- a link between positions is an edge between groups
 link_edge : (groups : List (List ℕ)) (edges : List (ℕ × ℕ)) (a b : ℕ) → IsPartition groups → All (λ e. (e.0 < size groups) × (e.1 < size groups)) edges → Contains (links_of groups edges) (a, b) → Contains (contracted groups edges) (owner_of groups a, owner_of groups b)
@@ -142,11 +146,11 @@ link_edge groups (e ∷ es) a b part all (zero, low, at) =
     let one : owner_of groups e.0 ≡ owner_of groups a = sym (position_own groups e.0 part ends.0).owner ∙ ap (owner_of groups) from in
     let two : owner_of groups e.1 ≡ owner_of groups b = sym (position_own groups e.1 part ends.1).owner ∙ ap (owner_of groups) to in
     (zero, omega arith, pair one two) where
-  pair : {u v w x : ℕ} → u ≡ v → w ≡ x → ◌≡◌ {A = ℕ × ℕ} (u, w) (v, x)
-  pair p q = cc
+      pair : {u v w x : ℕ} → u ≡ v → w ≡ x → ◌≡◌ {A = ℕ × ℕ} (u, w) (v, x)
+      pair p q = cc
 link_edge groups (e ∷ es) a b part all (suc k, low, at) =
     let rest : Contains (contracted groups es) (owner_of groups a, owner_of groups b)
-      = link_edge groups es a b part (All-tail (λ e. (e.0 < size groups) × (e.1 < size groups)) e es all) (k, omega (arith, low), at) in
+    = link_edge groups es a b part (All-tail (λ e. (e.0 < size groups) × (e.1 < size groups)) e es all) (k, omega (arith, low), at) in
     (suc rest.0, omega (arith, rest.1), rest.2)
 
 leads_edges : (groups : List (List ℕ)) (edges : List (ℕ × ℕ)) (a : ℕ) (vs : List ℕ) (b : ℕ) → IsPartition groups → All (λ e. (e.0 < size groups) × (e.1 < size groups)) edges → Leads (links_of groups edges) a vs b

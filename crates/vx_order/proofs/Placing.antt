@@ -47,8 +47,9 @@ head_or_more x v xs h = grind (arith, nat_tests)
 pub ascends_has : (low : ℕ) (xs : List ℕ) (v : ℕ) → Ascends low xs → has xs v ≡ true → low ≤ v
 ascends_has low [] v a h = absurd (cc)
 ascends_has low (x ∷ xs) v a h = elim (head_or_more x v xs h) [
-    inl e ↦ subst (λ n. low ≤ n) e a.0
-  | inr more ↦ (let far : x + 1 ≤ v = ascends_has (x + 1) xs v a.1 more in omega (arith, a.0)) ]
+  | inl e ↦ subst (λ n. low ≤ n) e a.0
+  | inr more ↦ (let far : x + 1 ≤ v = ascends_has (x + 1) xs v a.1 more in omega (arith, a.0))
+]
 
 pub at_head : (x v : ℕ) (xs : List ℕ) → x ≡ v → has (x ∷ xs) v ≡ true
 at_head x v xs e = grind (arith, nat_tests)
@@ -62,11 +63,12 @@ find_least p low [] v a h pass least = absurd (cc)
 find_least p low (x ∷ xs) v a h pass least = go (p x) refl (λ more. find_least p (x + 1) xs v a.1 more pass (λ w member passes. least w (in_more x w xs member) passes)) where
   go : (b : Bool) → p x ≡ b → (has xs v ≡ true → find p xs ≡ Some v) → cond b (Some x) (find p xs) ≡ Some v
   go true e rest =
-    let low_v : v ≤ x = least x (at_head x x xs refl) e in
-    elim (head_or_more x v xs h) [ inl s ↦ ap Some s | inr more ↦ absurd (let far : x + 1 ≤ v = ascends_has (x + 1) xs v a.1 more in omega arith) ]
+      let low_v : v ≤ x = least x (at_head x x xs refl) e in
+      elim (head_or_more x v xs h) [ inl s ↦ ap Some s | inr more ↦ absurd (let far : x + 1 ≤ v = ascends_has (x + 1) xs v a.1 more in omega arith) ]
   go false e rest = elim (head_or_more x v xs h) [
-      inl s ↦ absurd (let passes : p x ≡ true = subst (λ n. p n ≡ true) (sym s) pass in cc)
-    | inr more ↦ rest more ]
+    | inl s ↦ absurd (let passes : p x ≡ true = subst (λ n. p n ≡ true) (sym s) pass in cc)
+    | inr more ↦ rest more
+  ]
 
 pub find_none : (p : ℕ → Bool) (xs : List ℕ) → ((w : ℕ) → has xs w ≡ true → p w ≡ false) → find p xs ≡ None
 find_none p [] none = refl
@@ -77,12 +79,12 @@ pub next_is : (nodes : List ℕ) (links : List (ℕ × ℕ)) (placed counts : Li
 next_is nodes links placed counts ready v up w there least =
     let parts : (has nodes v ≡ true) × (is_ready links placed v ≡ true) = both (has nodes v) (is_ready links placed v) (sym (ready_is nodes links placed counts ready v w) ∙ there) in
     find_least (is_ready links placed) 0 nodes v up parts.0 parts.1
-      (λ u member may. least u (ready_is nodes links placed counts ready u w ∙ (rw (member, may) refl)))
+    (λ u member may. least u (ready_is nodes links placed counts ready u w ∙ (rw (member, may) refl)))
 
 pub next_none : (nodes : List ℕ) (links : List (ℕ × ℕ)) (placed counts : List ℕ) (ready : ℕ → Bool) → IsUnderWay nodes links placed counts ready → ((w : ℕ) → ready w ≡ false) → next nodes links placed ≡ None
 next_none nodes links placed counts ready w empty = find_none (is_ready links placed) nodes (λ u member.
     (let e : (has nodes u && is_ready links placed u) ≡ false = sym (ready_is nodes links placed counts ready u w) ∙ empty u in
-     let f : (true && is_ready links placed u) ≡ false = subst (λ b. (b && is_ready links placed u) ≡ false) member e in f))
+    let f : (true && is_ready links placed u) ≡ false = subst (λ b. (b && is_ready links placed u) ≡ false) member e in f))
 
 pub has-append : (xs : List ℕ) (v w : ℕ) → has (xs ++ v ∷ []) w ≡ (has xs w || (v == w))
 has-append [] v w = grind (arith, nat_tests)
@@ -124,11 +126,11 @@ open_split (l ∷ ls) placed v w free =
     let here : has (placed ++ v ∷ []) l.0 ≡ (has placed l.0 || (l.0 == v)) = has-append placed v l.0 ∙ ap (λ b. has placed l.0 || b) (eqb_sym v l.0) in
     let before : open_links (l ∷ ls) placed w ≡ bit ((l.1 == w) && not (has placed l.0)) + open_links ls placed w = open_cons l ls placed w in
     let after : open_links (l ∷ ls) (placed ++ v ∷ []) w ≡ bit ((l.1 == w) && not (has placed l.0 || (l.0 == v))) + open_links ls (placed ++ v ∷ []) w
-      = open_cons l ls (placed ++ v ∷ []) w ∙ ap (λ b. bit ((l.1 == w) && not b) + open_links ls (placed ++ v ∷ []) w) here in
+    = open_cons l ls (placed ++ v ∷ []) w ∙ ap (λ b. bit ((l.1 == w) && not b) + open_links ls (placed ++ v ∷ []) w) here in
     let off : tally w (ends_from v (l ∷ ls)) ≡ cond (l.0 == v) (bit (l.1 == w) + tally w (ends_from v ls)) (tally w (ends_from v ls)) = tally_ends l ls v w in
     let step : bit ((l.1 == w) && not (has placed l.0)) + open_links ls placed w
-          ≡ (bit ((l.1 == w) && not (has placed l.0 || (l.0 == v))) + open_links ls (placed ++ v ∷ []) w) + cond (l.0 == v) (bit (l.1 == w) + tally w (ends_from v ls)) (tally w (ends_from v ls))
-      = split_step (l.1 == w) (has placed l.0) (l.0 == v) (open_links ls placed w) (open_links ls (placed ++ v ∷ []) w) (tally w (ends_from v ls)) (λ e. same_free placed v l.0 free e) more in
+    ≡ (bit ((l.1 == w) && not (has placed l.0 || (l.0 == v))) + open_links ls (placed ++ v ∷ []) w) + cond (l.0 == v) (bit (l.1 == w) + tally w (ends_from v ls)) (tally w (ends_from v ls))
+    = split_step (l.1 == w) (has placed l.0) (l.0 == v) (open_links ls placed w) (open_links ls (placed ++ v ∷ []) w) (tally w (ends_from v ls)) (λ e. same_free placed v l.0 free e) more in
     joined _ _ _ _ _ _ before after off step
 
 -- a node after another is placed: the bits of one node's entry
@@ -145,25 +147,32 @@ pub placed_more : (nodes : List ℕ) (links : List (ℕ × ℕ)) (placed counts 
     → IsUnderWay nodes links (placed ++ v ∷ []) counts' ready'
 placed_more nodes links placed counts counts' ready ready' v u there fewer grown ends = record {
   counted = λ w. (let split : open_links links placed w ≡ open_links links (placed ++ v ∷ []) w + tally w (ends_from v links) = open_split links placed v w free in
-    omega (arith, split, fewer w, u.counted w));
+      omega (arith, split, fewer w, u.counted w));
   done = λ w h. elim (placed_or_here w (sym (has-append placed v w) ∙ h)) [
-      inl p ↦ omega (arith, fewer w, u.done w p)
-    | inr e ↦ omega (arith, fewer w, subst (λ n. slice_index counts n ≡ 0) e zero_v) ];
+    | inl p ↦ omega (arith, fewer w, u.done w p)
+    | inr e ↦ omega (arith, fewer w, subst (λ n. slice_index counts n ≡ 0) e zero_v)
+  ];
   set = λ w. grown w ∙ (rw (has-append placed v w) (set_step (ready w) (has nodes w) (has placed w) (v == w) (slice_index counts w) (slice_index counts' w) (tally w (ends_from v links))
-    (fewer w) (u.set w) (u.done w) (λ e. subst (λ n. slice_index counts n ≡ 0) (same v w e) zero_v) (ends w)))
+      (fewer w) (u.set w) (u.done w) (λ e. subst (λ n. slice_index counts n ≡ 0) (same v w e) zero_v) (ends w)));
 } where
   same : (a b : ℕ) → (a == b) ≡ true → a ≡ b
   same a b e = grind (arith, nat_tests)
+
   not_true : (b : Bool) → not b ≡ true → b ≡ false
   not_true true e = absurd (cc)
   not_true false e = refl
+
   placed_or_here : (w : ℕ) → (has placed w || (v == w)) ≡ true → (has placed w ≡ true) ⊎ (v ≡ w)
   placed_or_here w e = grind (arith, nat_tests)
+
   parts : (has nodes v ≡ true) × ((not (has placed v) && (slice_index counts v == 0)) ≡ true)
   parts = both (has nodes v) (not (has placed v) && (slice_index counts v == 0)) (sym (u.set v) ∙ there)
+
   more : (not (has placed v) ≡ true) × ((slice_index counts v == 0) ≡ true)
   more = both (not (has placed v)) (slice_index counts v == 0) parts.1
+
   free : has placed v ≡ false
   free = not_true (has placed v) more.0
+
   zero_v : slice_index counts v ≡ 0
   zero_v = same (slice_index counts v) 0 more.1

@@ -18,8 +18,9 @@ use Rattle.vx_order.proofs.Placing.{IsUnderWay, open_links, open_split, both, he
 pub has_at : (xs : List ℕ) (v : ℕ) → has xs v ≡ true → (k : ℕ) × (k < length xs) × (slice_index xs k ≡ v)
 has_at [] v h = absurd (cc)
 has_at (x ∷ xs) v h = elim (head_or_more x v xs h) [
-    inl e ↦ (zero, omega arith, e)
-  | inr more ↦ (let found : (k : ℕ) × (k < length xs) × (slice_index xs k ≡ v) = has_at xs v more in (suc found.0, omega (arith, found.1), found.2)) ]
+  | inl e ↦ (zero, omega arith, e)
+  | inr more ↦ (let found : (k : ℕ) × (k < length xs) × (slice_index xs k ≡ v) = has_at xs v more in (suc found.0, omega (arith, found.1), found.2))
+]
 
 pub at_has : (xs : List ℕ) (k : ℕ) → k < length xs → has xs (slice_index xs k) ≡ true
 at_has [] k h = absurd (omega arith)
@@ -50,8 +51,8 @@ pub tally_has : (xs : List ℕ) (v : ℕ) → 0 < tally v xs → has xs v ≡ tr
 tally_has [] v h = absurd (omega arith)
 tally_has (x ∷ xs) v h = (let e : tally v (x ∷ xs) ≡ bit (x == v) + tally v xs = sum_by-cons (λ y. bit (y == v)) x xs in
     elim (bit_or_rest (x == v) (tally v xs) (omega (arith, e))) [ inl p ↦ at_head x v xs (same x v p) | inr more ↦ in_more x v xs (tally_has xs v more) ]) where
-  same : (a b : ℕ) → (a == b) ≡ true → a ≡ b
-  same a b e = grind (arith, nat_tests)
+      same : (a b : ℕ) → (a == b) ≡ true → a ≡ b
+      same a b e = grind (arith, nat_tests)
 
 pub ends_are_nodes : (nodes : List ℕ) (links : List (ℕ × ℕ)) (v w : ℕ) → AreLinks nodes links → 0 < tally w (ends_from v links) → has nodes w ≡ true
 ends_are_nodes nodes links v w are h = all_has (λ u. has nodes u ≡ true) (ends_from v links) w (ends_all (λ u. has nodes u ≡ true) links v (λ k d low. (are k d low).1)) (tally_has (ends_from v links) w h)
@@ -61,9 +62,10 @@ pub some_counted : (p : ℕ × ℕ → Bool) (links : List (ℕ × ℕ)) → 0 <
 some_counted p [] h = absurd (omega arith)
 some_counted p (l ∷ ls) h = (let e : count_by p (l ∷ ls) ≡ bit (p l) + count_by p ls = sum_by-cons (λ y. bit (p y)) l ls in
     elim (bit_or_rest (p l) (count_by p ls) (omega (arith, e))) [
-      inl y ↦ (l, (zero, omega arith, refl), y)
-    | inr more ↦ (let found : (m : ℕ × ℕ) × Contains ls m × (p m ≡ true) = some_counted p ls more in
-        (found.0, (suc found.1.0, omega (arith, found.1.1), found.1.2), found.2)) ])
+      | inl y ↦ (l, (zero, omega arith, refl), y)
+      | inr more ↦ (let found : (m : ℕ × ℕ) × Contains ls m × (p m ≡ true) = some_counted p ls more in
+          (found.0, (suc found.1.0, omega (arith, found.1.1), found.1.2), found.2))
+    ])
 
 pub at_eq : (a b : ℕ) → is_eq (nat_cmp a b) ≡ (a == b)
 at_eq a b = grind (arith, nat_tests)
@@ -82,9 +84,9 @@ empty_has s w none = go s.keys none where
 pub free_of : (nodes : List ℕ) (links : List (ℕ × ℕ)) (placed counts : List ℕ) (ready : ℕ → Bool) (v : ℕ) → IsUnderWay nodes links placed counts ready → ready v ≡ true → has placed v ≡ false
 free_of nodes links placed counts ready v u there = (let parts : (has nodes v ≡ true) × ((not (has placed v) && (slice_index counts v == 0)) ≡ true) = both (has nodes v) (not (has placed v) && (slice_index counts v == 0)) (sym (u.set v) ∙ there) in
     not_true (has placed v) (both (not (has placed v)) (slice_index counts v == 0) parts.1).0) where
-  not_true : (b : Bool) → not b ≡ true → b ≡ false
-  not_true true e = absurd (cc)
-  not_true false e = refl
+      not_true : (b : Bool) → not b ≡ true → b ≡ false
+      not_true true e = absurd (cc)
+      not_true false e = refl
 
 -- what is counted off was counted
 pub release_counted : (nodes : List ℕ) (links : List (ℕ × ℕ)) (placed counts : List ℕ) (ready : ℕ → Bool) (v w : ℕ) → IsUnderWay nodes links placed counts ready → ready v ≡ true → tally w (ends_from v links) ≤ slice_index counts w
@@ -96,7 +98,7 @@ pub place_more : (nodes : List ℕ) (links : List (ℕ × ℕ)) (placed : List �
     → place nodes links (placed ++ v ∷ []) (drop (i + 1) nodes) ≡ order_on nodes links
 place_more nodes links placed i v h n e =
     subst (λ k. place nodes links (placed ++ v ∷ []) (drop k nodes) ≡ order_on nodes links) (sym (add-one i))
-      (sym (ap (option_and_then (λ u. place nodes links (placed ++ u ∷ []) (drop (suc i) nodes))) n) ∙ sym (ap (place nodes links placed) (drop-cons nodes i 0 h)) ∙ e)
+    (sym (ap (option_and_then (λ u. place nodes links (placed ++ u ∷ []) (drop (suc i) nodes))) n) ∙ sym (ap (place nodes links placed) (drop-cons nodes i 0 h)) ∙ e)
 
 -- no further node, and so no order
 pub place_none : (nodes : List ℕ) (links : List (ℕ × ℕ)) (placed : List ℕ) (i : ℕ) → i < length nodes → next nodes links placed ≡ None → place nodes links placed (drop i nodes) ≡ order_on nodes links → order_on nodes links ≡ None
@@ -114,29 +116,32 @@ shorter_by : (ys : List ℕ) (v : ℕ) → has ys v ≡ true → length (filter 
 shorter_by [] v h = absurd (cc)
 shorter_by (y ∷ ys) v h = go (y == v) refl (λ more. shorter_by ys v more) where
   go : (b : Bool) → (y == v) ≡ b → (has ys v ≡ true → length (filter (λ y. not (y == v)) ys) < length ys)
-    → length (cond (not b) (y ∷ filter (λ y. not (y == v)) ys) (filter (λ y. not (y == v)) ys)) < suc (length ys)
+      → length (cond (not b) (y ∷ filter (λ y. not (y == v)) ys) (filter (λ y. not (y == v)) ys)) < suc (length ys)
   go true e rest = (let s : length (filter (λ y. not (y == v)) ys) ≤ length ys = shorter ys v in omega arith)
   go false e rest = elim (head_or_more y v ys h) [
-      inl s ↦ absurd (let t : (y == v) ≡ true = grind (arith, nat_tests) in cc)
-    | inr more ↦ (let s : length (filter (λ y. not (y == v)) ys) < length ys = rest more in omega arith) ]
+    | inl s ↦ absurd (let t : (y == v) ≡ true = grind (arith, nat_tests) in cc)
+    | inr more ↦ (let s : length (filter (λ y. not (y == v)) ys) < length ys = rest more in omega arith)
+  ]
 
 still_has : (ys : List ℕ) (v w : ℕ) → w ≢ v → has ys w ≡ true → has (filter (λ y. not (y == v)) ys) w ≡ true
 still_has [] v w d h = absurd (cc)
 still_has (y ∷ ys) v w d h = go (y == v) refl (λ more. still_has ys v w d more) where
   go : (b : Bool) → (y == v) ≡ b → (has ys w ≡ true → has (filter (λ y. not (y == v)) ys) w ≡ true) → has (cond (not b) (y ∷ filter (λ y. not (y == v)) ys) (filter (λ y. not (y == v)) ys)) w ≡ true
   go true e rest = elim (head_or_more y w ys h) [
-      inl s ↦ absurd (d (let t : y ≡ v = grind (arith, nat_tests) in sym s ∙ t))
-    | inr more ↦ rest more ]
+    | inl s ↦ absurd (d (let t : y ≡ v = grind (arith, nat_tests) in sym s ∙ t))
+    | inr more ↦ rest more
+  ]
   go false e rest = elim (head_or_more y w ys h) [
-      inl s ↦ at_head y w (filter (λ y. not (y == v)) ys) s
-    | inr more ↦ in_more y w (filter (λ y. not (y == v)) ys) (rest more) ]
+    | inl s ↦ at_head y w (filter (λ y. not (y == v)) ys) s
+    | inr more ↦ in_more y w (filter (λ y. not (y == v)) ys) (rest more)
+  ]
 
 -- ascending numbers that all stand in a list are at most as many
 pub as_many : (low : ℕ) (xs ys : List ℕ) → Ascends low xs → ((v : ℕ) → has xs v ≡ true → has ys v ≡ true) → length xs ≤ length ys
 as_many low [] ys a in_ys = omega arith
 as_many low (x ∷ xs) ys a in_ys =
     let rest : length xs ≤ length (filter (λ y. not (y == x)) ys) = as_many (x + 1) xs (filter (λ y. not (y == x)) ys) a.1 (λ v member.
-      still_has ys x v (λ e. (let far : x + 1 ≤ v = ascends_has (x + 1) xs v a.1 member in absurd (omega (arith, e)))) (in_ys v (in_more x v xs member))) in
+    still_has ys x v (λ e. (let far : x + 1 ≤ v = ascends_has (x + 1) xs v a.1 member in absurd (omega (arith, e)))) (in_ys v (in_more x v xs member))) in
     let less : length (filter (λ y. not (y == x)) ys) < length ys = shorter_by ys x (in_ys x (at_head x x xs refl)) in
     omega arith
 
@@ -144,10 +149,12 @@ as_many low (x ∷ xs) ys a in_ys =
 pub open_or_none : (counts xs : List ℕ) → ((k : ℕ) × (k < length xs) × (0 < slice_index counts (slice_index xs k))) ⊎ ((v : ℕ) → has xs v ≡ true → slice_index counts v ≡ 0)
 open_or_none counts [] = inr (λ v h. absurd (cc))
 open_or_none counts (x ∷ xs) = elim (zero_or (slice_index counts x)) [
-    inr pos ↦ inl (zero, omega arith, pos)
+  | inr pos ↦ inl (zero, omega arith, pos)
   | inl z ↦ elim (open_or_none counts xs) [
-      inl found ↦ inl (suc found.0, omega (arith, found.1), found.2)
-    | inr none ↦ inr (λ v h. elim (head_or_more x v xs h) [ inl e ↦ subst (λ n. slice_index counts n ≡ 0) e z | inr more ↦ none v more ]) ] ] where
+    | inl found ↦ inl (suc found.0, omega (arith, found.1), found.2)
+    | inr none ↦ inr (λ v h. elim (head_or_more x v xs h) [ inl e ↦ subst (λ n. slice_index counts n ≡ 0) e z | inr more ↦ none v more ])
+  ]
+] where
   zero_or : (n : ℕ) → (n ≡ 0) ⊎ (0 < n)
   zero_or n = grind arith
 
@@ -159,8 +166,9 @@ placed_if_zero member was n e m z = grind (arith, nat_tests)
 pub some_open : (nodes : List ℕ) (links : List (ℕ × ℕ)) (placed counts : List ℕ) (ready : ℕ → Bool) → Ascends 0 nodes → IsUnderWay nodes links placed counts ready → ((w : ℕ) → ready w ≡ false) → length placed < length nodes
     → (k : ℕ) × (k < length nodes) × (0 < slice_index counts (slice_index nodes k))
 some_open nodes links placed counts ready up u empty few = elim (open_or_none counts nodes) [
-    inl found ↦ found
-  | inr none ↦ absurd (let many : length nodes ≤ length placed = as_many 0 nodes placed up (λ v member. placed_if_zero (has nodes v) (has placed v) (slice_index counts v) (sym (u.set v) ∙ empty v) member (none v member)) in omega arith) ]
+  | inl found ↦ found
+  | inr none ↦ absurd (let many : length nodes ≤ length placed = as_many 0 nodes placed up (λ v member. placed_if_zero (has nodes v) (has placed v) (slice_index counts v) (sym (u.set v) ∙ empty v) member (none v member)) in omega arith)
+]
 
 not_zero : (member was : Bool) (n : ℕ) → (member && (not was && (n == 0))) ≡ false → member ≡ true → was ≡ false → 0 < n
 not_zero member was n e m w = grind (arith, nat_tests)
@@ -177,13 +185,15 @@ open_before nodes links placed counts ready v are w empty pos =
     let found : (l : ℕ × ℕ) × Contains links l × (((l.1 == v) && not (has placed l.0)) ≡ true) = some_counted (λ l. (l.1 == v) && not (has placed l.0)) links (omega (arith, w.counted v)) in
     let parts : ((found.0.1 == v) ≡ true) × (has placed found.0.0 ≡ false) = open_link_parts (found.0.1 == v) (has placed found.0.0) found.2 in
     let to : found.0.1 ≡ v = same found.0.1 v parts.0 in
-    let member : has nodes found.0.0 ≡ true = subst (λ (l : ℕ × ℕ). has nodes l.0 ≡ true) found.1.2 (are found.1.0 found.0 found.1.1).0 in
-    (found.0.0, record {
-      link = subst (λ n. Contains links (found.0.0, n)) to found.1;
-      is_open = not_zero (has nodes found.0.0) (has placed found.0.0) (slice_index counts found.0.0) (sym (w.set found.0.0) ∙ empty found.0.0) member parts.1
-    }) where
-  same : (a b : ℕ) → (a == b) ≡ true → a ≡ b
-  same a b e = grind (arith, nat_tests)
+    let member : has nodes found.0.0 ≡ true = subst (λ (l : ℕ × ℕ). has nodes l.0 ≡ true) found.1.2 (are found.1.0 found.0 found.1.1).0 in (
+      found.0.0,
+      record {
+        link = subst (λ n. Contains links (found.0.0, n)) to found.1;
+        is_open = not_zero (has nodes found.0.0) (has placed found.0.0) (slice_index counts found.0.0) (sym (w.set found.0.0) ∙ empty found.0.0) member parts.1;
+      },
+    ) where
+      same : (a b : ℕ) → (a == b) ≡ true → a ≡ b
+      same a b e = grind (arith, nat_tests)
 
 -- a number with open links is a node
 pub open_is_node : (nodes : List ℕ) (links : List (ℕ × ℕ)) (placed counts : List ℕ) (ready : ℕ → Bool) (v : ℕ) → AreLinks nodes links → IsUnderWay nodes links placed counts ready → 0 < slice_index counts v → has nodes v ≡ true
@@ -192,8 +202,8 @@ open_is_node nodes links placed counts ready v are w pos =
     let parts : ((found.0.1 == v) ≡ true) × (has placed found.0.0 ≡ false) = open_link_parts (found.0.1 == v) (has placed found.0.0) found.2 in
     let to : found.0.1 ≡ v = same found.0.1 v parts.0 in
     subst (λ n. has nodes n ≡ true) to (subst (λ (l : ℕ × ℕ). has nodes l.1 ≡ true) found.1.2 (are found.1.0 found.0 found.1.1).1) where
-  same : (a b : ℕ) → (a == b) ≡ true → a ≡ b
-  same a b e = grind (arith, nat_tests)
+      same : (a b : ℕ) → (a == b) ≡ true → a ≡ b
+      same a b e = grind (arith, nat_tests)
 
 -- a row that was read with itself as the default
 pub row_at : (rows : List (List ℕ)) (i : ℕ) (row : List ℕ) → i < length rows → row ≡ get_or rows i row → row ≡ get_or rows i []

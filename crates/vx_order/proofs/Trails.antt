@@ -45,24 +45,27 @@ pub before_set : (links : List (ℕ × ℕ)) (counts before : List ℕ) (i : ℕ
     → ((k u v : ℕ) → k < i → slice_get links k ≡ Some (u, v) → 0 < slice_index counts u → IsOpenBefore links counts (slice_index before v) v)
     → (k u v : ℕ) → k < i + 1 → slice_get links k ≡ Some (u, v) → 0 < slice_index counts u → IsOpenBefore links counts (slice_index (slice_set before (get_or links i (0, 0)).1 (get_or links i (0, 0)).0) v) v
 before_set links counts before i h w pos found k u v low at up = elim (one_or_other (get_or links i (0, 0)).1 v) [
-    inl s ↦ (let new : slice_index (slice_set before (get_or links i (0, 0)).1 (get_or links i (0, 0)).0) (get_or links i (0, 0)).1 ≡ (get_or links i (0, 0)).0
-          = get_or-set_same before (get_or links i (0, 0)).1 (get_or links i (0, 0)).0 0 w in
+  | inl s ↦ (let new : slice_index (slice_set before (get_or links i (0, 0)).1 (get_or links i (0, 0)).0) (get_or links i (0, 0)).1 ≡ (get_or links i (0, 0)).0
+      = get_or-set_same before (get_or links i (0, 0)).1 (get_or links i (0, 0)).0 0 w in
       let here : IsOpenBefore links counts (get_or links i (0, 0)).0 (get_or links i (0, 0)).1 = record { link = there links i (get_or links i (0, 0)) (link_at links i h); is_open = pos } in
       let put : IsOpenBefore links counts (slice_index (slice_set before (get_or links i (0, 0)).1 (get_or links i (0, 0)).0) (get_or links i (0, 0)).1) (get_or links i (0, 0)).1
-        = subst (λ n. IsOpenBefore links counts n (get_or links i (0, 0)).1) (sym new) here in
+      = subst (λ n. IsOpenBefore links counts n (get_or links i (0, 0)).1) (sym new) here in
       subst (λ n. IsOpenBefore links counts (slice_index (slice_set before (get_or links i (0, 0)).1 (get_or links i (0, 0)).0) n) n) s put)
   | inr d ↦ elim (one_or_other k i) [
-      inl s ↦ absurd (d (ap (λ (p : ℕ × ℕ). p.1) (same_link links i k u v h s at)))
-    | inr e ↦ subst (λ n. IsOpenBefore links counts n v) (sym (set_apart before (get_or links i (0, 0)).1 v (get_or links i (0, 0)).0 (λ q. d (sym q)))) (found k u v (omega arith) at up) ] ]
+    | inl s ↦ absurd (d (ap (λ (p : ℕ × ℕ). p.1) (same_link links i k u v h s at)))
+    | inr e ↦ subst (λ n. IsOpenBefore links counts n v) (sym (set_apart before (get_or links i (0, 0)).1 v (get_or links i (0, 0)).0 (λ q. d (sym q)))) (found k u v (omega arith) at up)
+  ]
+]
 
 -- one more link, from a number without
 pub before_kept : (links : List (ℕ × ℕ)) (counts before : List ℕ) (i : ℕ) → i < length links → slice_index counts (get_or links i (0, 0)).0 ≤ 0
     → ((k u v : ℕ) → k < i → slice_get links k ≡ Some (u, v) → 0 < slice_index counts u → IsOpenBefore links counts (slice_index before v) v)
     → (k u v : ℕ) → k < i + 1 → slice_get links k ≡ Some (u, v) → 0 < slice_index counts u → IsOpenBefore links counts (slice_index before v) v
 before_kept links counts before i h none found k u v low at up = elim (one_or_other k i) [
-    inl s ↦ (let from : (get_or links i (0, 0)).0 ≡ u = ap (λ (p : ℕ × ℕ). p.0) (same_link links i k u v h s at) in
+  | inl s ↦ (let from : (get_or links i (0, 0)).0 ≡ u = ap (λ (p : ℕ × ℕ). p.0) (same_link links i k u v h s at) in
       let zero_u : slice_index counts u ≤ 0 = subst (λ n. slice_index counts n ≤ 0) from none in absurd (omega arith))
-  | inr e ↦ found k u v (omega arith) at up ]
+  | inr e ↦ found k u v (omega arith) at up
+]
 
 -- where each number with open links has a link from such a number, the links have shown it
 pub all_before : (links : List (ℕ × ℕ)) (counts before : List ℕ) (i v : ℕ) → length links ≤ i → (u : ℕ) → IsOpenBefore links counts u v
@@ -89,10 +92,11 @@ has_new xs v w e = has-append xs v w ∙ (grind (arith, nat_tests))
 
 pub met_more : (met : List Bool) (trail : List ℕ) (at v : ℕ) → ((v : ℕ) → get_or met v false ≡ true → has trail v ≡ true) → get_or (slice_set met at true) v false ≡ true → has (trail ++ at ∷ []) v ≡ true
 met_more met trail at v old h = elim (one_or_other at v) [
-    inl s ↦ has_new trail at v s
+  | inl s ↦ has_new trail at v s
   | inr d ↦ (let other : v ≢ at = λ q. d (sym q) in
       let was : get_or (slice_set met at true) v false ≡ get_or met v false = rw get_or-set_other refl in
-      has_old trail at v (old v (sym was ∙ h))) ]
+      has_old trail at v (old v (sym was ∙ h)))
+]
 
 pub reverse_last : (xs : List ℕ) (v : ℕ) → reverse (xs ++ v ∷ []) ≡ v ∷ reverse xs
 reverse_last xs v = reverse-append xs (v ∷ [])

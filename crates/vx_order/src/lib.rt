@@ -58,3 +58,6 @@ pub fn schedule(
         Err(OrderRefusal::OutOfMemory) => Err(OrderRefusal::OutOfMemory),
     }
 }
+
+#[cfg(test)]
+mod tests;

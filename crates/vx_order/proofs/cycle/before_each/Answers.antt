@@ -7,13 +7,16 @@ use Rattle.vx_order.proofs.cycle.before_each.Goals.{then-counts-from-gt0, else-c
 
 pub loop-from-preserved : goal.loop-from-preserved
 loop-from-preserved c = elim c.if-counts-from-gt0.branch [
-    then-counts-from-gt0 w ↦ rw w.before-is (record {
-        len = length-set c.loop-from.before.items _ _ ∙ c.loop-from.invariant.len;
-        found = before_set c.args.links.now c.args.counts.now c.loop-from.before.items c.loop-from.from-index c.loop-from-test.true
-          (omega (arith, c.loop-from.invariant.len, (c.requires.ends c.loop-from.from-index (0, 0) c.loop-from-test.true).1)) w.if-counts-from-gt0.true c.loop-from.invariant.found })
+  | then-counts-from-gt0 w ↦ rw w.before-is (record {
+    len = length-set c.loop-from.before.items _ _ ∙ c.loop-from.invariant.len;
+    found = before_set c.args.links.now c.args.counts.now c.loop-from.before.items c.loop-from.from-index c.loop-from-test.true
+        (omega (arith, c.loop-from.invariant.len, (c.requires.ends c.loop-from.from-index (0, 0) c.loop-from-test.true).1)) w.if-counts-from-gt0.true c.loop-from.invariant.found;
+  })
   | else-counts-from-gt0 w ↦ rw w.before-is (record {
-        len = c.loop-from.invariant.len;
-        found = before_kept c.args.links.now c.args.counts.now c.loop-from.before.items c.loop-from.from-index c.loop-from-test.true w.if-counts-from-gt0.false c.loop-from.invariant.found }) ]
+    len = c.loop-from.invariant.len;
+    found = before_kept c.args.links.now c.args.counts.now c.loop-from.before.items c.loop-from.from-index c.loop-from-test.true w.if-counts-from-gt0.false c.loop-from.invariant.found;
+  })
+]
 
 pub returns-clause-before : goal.returns-clause-before
 returns-clause-before c = λ v within pos.

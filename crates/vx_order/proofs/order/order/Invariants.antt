@@ -12,5 +12,5 @@ invariant-each l = record {
   under : IsUnderWay l.nodes l.links l.placed.items l.counts.items (contains nat_cmp l.ready);
   rest : place l.nodes l.links l.placed.items (drop l._node-index l.nodes) ≡ order_on l.nodes l.links;
   below : All (λ v. v < l.bound) l.placed.items;
-  many : length l.placed.items ≡ l._node-index
+  many : length l.placed.items ≡ l._node-index;
 }
