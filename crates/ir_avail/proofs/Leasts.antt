@@ -1,10 +1,10 @@
 -- The least of the shortest ways: the least target at one less goes first, and then the least way from it.
-use Rattle.std.proofs.Common.{◌≡◌, ℕ, ◌+◌, ◌<◌, ◌≤◌, Bool, true, false, List, [], ◌∷◌, ◌++◌, length, refl, sym, ◌∙◌, ap, subst, inl, inr, arith, append_assoc, zero, suc}
+use Rattle.std.proofs.Common.{◌≡◌, ℕ, ◌+◌, ◌<◌, ◌≤◌, Bool, false, List, [], ◌∷◌, ◌++◌, length, refl, sym, ◌∙◌, ap, subst, inl, inr, arith, append_assoc}
 use Rattle.std.specs.Prelude.{◌⊎◌}
 use Rattle.std.specs.declared.option.Option.{Option}
-use Rattle.std.specs.declared.option.Option.TheVariants.{None, Some}
+use Rattle.std.specs.declared.option.Option.TheVariants.{Some}
 use Rattle.ir_types.specs.Walks.{HasEdge, NotGreater}
-use Rattle.ir_avail.specs.Avoids.{distance_at, Avoids, HasWay, AreDistances, IsLeast, IsTargetAt}
+use Rattle.ir_avail.specs.Avoids.{distance_at, Avoids, AreDistances, IsLeast, IsTargetAt}
 use Rattle.ir_avail.proofs.Ways.{within, split_le, same_number}
 
 module _ (graph : List (List ℕ)) (barred : ℕ → Bool) (end : ℕ) (ds : List (Option ℕ)) (are : AreDistances graph barred end ds) where

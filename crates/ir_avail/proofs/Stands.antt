@@ -1,6 +1,6 @@
 -- From ways that leave no barred block to walks on which a definition stands, and back.
-use Rattle.std.proofs.Common.{◌≡◌, ℕ, ◌+◌, ◌<◌, ◌≤◌, Bool, true, false, List, [], ◌∷◌, length, get_or, take, map, refl, sym, ◌∙◌, ap, subst, inl, inr, arith, zero, suc, eqb-true}
-use Rattle.std.specs.Prelude.{◌||◌, ◌⊎◌, slice_get, MatchOption}
+use Rattle.std.proofs.Common.{◌≡◌, ℕ, ◌<◌, ◌≤◌, Bool, true, false, List, [], ◌∷◌, length, get_or, take, map, refl, sym, ◌∙◌, ap, subst, inl, inr, arith, zero, suc, eqb-true}
+use Rattle.std.specs.Prelude.{◌||◌, ◌⊎◌, slice_get}
 use Rattle.std.proofs.lemmas.Bool.{cases_eq}
 use Rattle.std.specs.declared.option.Option.{Option}
 use Rattle.std.specs.declared.option.Option.TheVariants.{None, Some}
@@ -8,8 +8,8 @@ use Rattle.ir_types.specs.declared.id.Id.{Id}
 use Rattle.ir_types.specs.declared.inst.Inst.{Inst}
 use Rattle.ir_types.specs.declared.func.Block.{Block}
 use Rattle.ir_types.specs.declared.func.Func.{Func}
-use Rattle.ir_types.specs.Walks.{HasEdge, GoesOn, IsWalk, EndsFrom, EndsAt, Precedes, NotGreater}
-use Rattle.ir_types.specs.Available.{same_id, is_param, defines, insts_of, insts_at, graph_of, stands_from, stands_on, IsAvailableAt, IsMiss, IsLeastMiss}
+use Rattle.ir_types.specs.Walks.{GoesOn, EndsFrom, Precedes}
+use Rattle.ir_types.specs.Available.{same_id, is_param, defines, insts_of, insts_at, graph_of, stands_from, IsAvailableAt, IsMiss, IsLeastMiss}
 use Rattle.ir_avail.specs.Avoids.{bar_at, distance_at, Avoids, AreDistances, IsLeast, LeadsLeast}
 use Rattle.ir_types.specs.declared.func.Param.{Param}
 use Rattle.std.specs.List.{list_any}

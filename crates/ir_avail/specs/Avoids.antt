@@ -2,7 +2,7 @@
 --
 -- A way goes from a block along edges to `end`; none of its blocks but the last is barred. With the blocks that define a value
 -- barred, the ways from the entry are the walks on which no earlier block defines it.
-use Rattle.std.specs.Prelude.{◌≡◌, ℕ, ◌+◌, ◌<◌, ◌≤◌, Bool, true, false, List, [], ◌∷◌, ◌++◌, length, slice_index_or}
+use Rattle.std.specs.Prelude.{◌≡◌, ℕ, ◌+◌, ◌<◌, ◌≤◌, Bool, false, List, [], ◌∷◌, length, slice_index_or}
 use Rattle.std.specs.declared.option.Option.{Option}
 use Rattle.std.specs.declared.option.Option.TheVariants.{None, Some}
 use Rattle.ir_types.specs.Walks.{HasEdge, NotGreater}

@@ -1,7 +1,7 @@
 //! Bit rows over the blocks: for up to 64 values at once, whether a walk may come to a block without passing their homes.
 //!
 //! `Band::new` is the entry point; it fails for want of memory alone. A bit is set where a walk from the entry may come to the
-//! block without the value. The rows are spread along the edges until nothing changes. What a clear bit says rests on a last
+//! block without the value. Bits are carried along the edges until no row gains one. What a clear bit says rests on a last
 //! pass over all edges; should that pass fail, every bit is set, and each use is then looked at by itself.
 
 ghost use Rattle.std.specs.Prelude.{◌≡◌, ℕ, ◌-◌, ◌<◌, ◌^◌, ◌⊎◌, true, length, IfOk, slice_index, slice_get};
@@ -101,33 +101,42 @@ fn with_bit(word: u64, column: usize) -> u64
     word | 1u64 << column
 }
 
-/// All bits of the entry's row, spread along the edges until nothing changes.
+/// All bits of the entry's row, carried along the edges until no row gains one. A row gains each bit at most once.
 fn spread_rows(alloc: Global, graph: &Graph, words: &[u64]) -> Result<Vec<u64>, AllocError> {
     let mut rows = full(alloc, graph.len(), 0)?;
+    let mut changed = Vec::new(alloc);
     if let Some(entry) = rows.get_mut(0) {
         *entry = u64::MAX;
     }
-    for _ in 0..graph.len() {
-        if !spread(graph, words, &mut rows) {
-            break;
+    changed.push(0)?;
+    let most = graph.len().saturating_mul(64).saturating_add(1);
+    for _ in 0..most {
+        match changed.pop() {
+            Some(number) => spread(graph, words, &mut rows, &mut changed, number)?,
+            None => break,
         }
     }
     Ok(rows)
 }
 
-/// Spreads each row once along the edges from its block, and tells whether one changed.
-fn spread(graph: &Graph, words: &[u64], rows: &mut [u64]) -> bool {
-    let mut changed = false;
-    for number in 0..graph.len() {
-        let leaves = row_at(rows, number) & !row_at(words, number);
-        for target in targets(graph, number) {
-            if let Some(row) = rows.get_mut(*target as usize) {
-                changed = changed || leaves & !*row != 0;
-                *row |= leaves;
-            }
+/// Carries a block's row along its edges, and notes the blocks whose rows gain bits.
+fn spread(
+    graph: &Graph,
+    words: &[u64],
+    rows: &mut Vec<u64>,
+    changed: &mut Vec<usize>,
+    number: usize,
+) -> Result<(), AllocError> {
+    let leaves = row_at(rows, number) & !row_at(words, number);
+    for target in targets(graph, number) {
+        let target = *target as usize;
+        let row = row_at(rows, target);
+        if leaves & !row != 0 && target < rows.len() {
+            rows[target] = row | leaves;
+            changed.push(target)?;
         }
     }
-    changed
+    Ok(())
 }
 
 /// The word of a block, 0 where there is none.

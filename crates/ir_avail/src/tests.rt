@@ -162,31 +162,64 @@ fn small_functions_are_judged(rt: HostRuntime) -> Result<(), AllocError> {
     Ok(())
 }
 
-// 4,096 blocks of 16 values in a chain with a way back from each to the second, every value used in the next block
+// 4,096 blocks of 16 values in a chain with a way back from each to the second, every value used in the next block; the blocks
+// stand in the order of the chain, and then against it
 #[test]
-fn a_large_function_is_judged(rt: HostRuntime) -> Result<(), AllocError> {
+fn large_functions_are_judged(rt: HostRuntime) -> Result<(), AllocError> {
     let alloc = rt.alloc();
-    let mut list = Vec::new(alloc);
-    for number in 0u32..4096 {
-        let mut insts = Seq::new(alloc);
-        for place in 0u32..15 {
-            let k = number * 16 + place;
-            let used = if number == 0 { 0 } else { k - 15 };
-            insts.push(inst(alloc, (k + 1, Plain, &[]), &[used])?)?;
+    for reversed in [false, true] {
+        let mut list = Vec::new(alloc);
+        for number in 0u32..4096 {
+            list.push(link(alloc, reversed, number)?)?;
         }
-        let last = if number == 4095 {
-            Ret
-        } else {
-            CondBr(number + 1, 1)
-        };
-        insts.push(inst(alloc, (number * 16 + 16, last, &[]), &[0])?)?;
-        list.push(Block { name: None, insts })?;
+        let m = module(alloc, list)?;
+        match check(alloc, &m) {
+            Ok(()) => {},
+            Err(AvailRefusal::OutOfMemory) => return Err(AllocError),
+            Err(AvailRefusal::NotAvailable { .. }) => panic!(rt; "a wrong verdict"),
+        }
     }
-    let m = module(alloc, list)?;
-    match check(alloc, &m) {
-        Ok(()) => Ok(()),
-        Err(AvailRefusal::OutOfMemory) => Err(AllocError),
-        Err(AvailRefusal::NotAvailable { .. }) => panic!(rt; "a wrong verdict"),
+    Ok(())
+}
+
+// the block of a number, which stands in the chain at its number or counted from the end
+fn link(alloc: Global, reversed: bool, number: u32) -> Result<Block, AllocError> {
+    let place = place_of(reversed, number);
+    let mut insts = Seq::new(alloc);
+    for k in 0u32..15 {
+        let used = if place == 0 {
+            0
+        } else {
+            place.wrapping_mul(16).wrapping_add(k).wrapping_sub(15)
+        };
+        insts.push(inst(
+            alloc,
+            (place.wrapping_mul(16).wrapping_add(k + 1), Plain, &[]),
+            &[used],
+        )?)?;
+    }
+    let last = if place == 4095 {
+        Ret
+    } else {
+        CondBr(
+            place_of(reversed, place.wrapping_add(1)),
+            place_of(reversed, 1),
+        )
+    };
+    insts.push(inst(
+        alloc,
+        (place.wrapping_mul(16).wrapping_add(16), last, &[]),
+        &[0],
+    )?)?;
+    Ok(Block { name: None, insts })
+}
+
+// the number of a block at a place of the chain, and the place of a number
+fn place_of(reversed: bool, number: u32) -> u32 {
+    if reversed && number != 0 {
+        4096u32.wrapping_sub(number)
+    } else {
+        number
     }
 }
 

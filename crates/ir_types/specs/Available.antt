@@ -13,7 +13,8 @@ use Rattle.ir_types.specs.declared.id.Id.{Id}
 use Rattle.ir_types.specs.declared.opd.Opd.{Opd}
 use Rattle.ir_types.specs.declared.opd.Opd.TheVariants.{Val}
 use Rattle.ir_types.specs.declared.op.Op.{Op}
-use Rattle.ir_types.specs.declared.op.Op.TheVariants.{Phi, Br, CondBr, Switch}
+use Rattle.ir_types.specs.declared.op.Op.TheVariants.{Phi, Br, CondBr, Switch, Select, Ret}
+use Rattle.ir_types.specs.declared.ty.Ty.TheVariants.{Void}
 use Rattle.ir_types.specs.declared.inst.Inst.{Inst}
 use Rattle.ir_types.specs.declared.func.Param.{Param}
 use Rattle.ir_types.specs.declared.func.Block.{Block}
@@ -169,3 +170,34 @@ module _ (user : Id) (slot : ℕ) (walk : List ℕ) where
   -- the use in that slot of the user is the first in order of text that is not available, with its least walk
   abbrev pub IsFirstMiss : Module → Type 0
   IsFirstMiss m = First IsAvailableItem ItemMisses m.items
+
+-- ---- a worked example: the value 2 comes to block 2 by block 1 alone
+
+abbrev value : ℕ → Id
+value k = record { region = 0; k = k }
+
+abbrev step : ℕ → Op → Inst
+step k op = record { id = value k; name = None; ty = Void; op = op; opds = [] }
+
+abbrev block : List Inst → Block
+block insts = record { name = None; insts = insts }
+
+abbrev one_way : Func
+one_way =
+    record {
+      before = [];
+      ret = Void;
+      name = [];
+      params = [];
+      after = [];
+      blocks = block (step 1 (CondBr 1 2) ∷ []) ∷ block (step 2 Select ∷ step 3 (Br 2) ∷ []) ∷ block (step 4 Ret ∷ []) ∷ [];
+    }
+
+graph_of-one_way : graph_of one_way ≡ (1 ∷ 2 ∷ []) ∷ (2 ∷ []) ∷ [] ∷ []
+graph_of-one_way = refl
+
+one_way-through : stands_on one_way (value 2) 0 (0 ∷ 1 ∷ 2 ∷ []) ≡ true
+one_way-through = refl
+
+one_way-past : stands_on one_way (value 2) 0 (0 ∷ 2 ∷ []) ≡ false
+one_way-past = refl

@@ -1,2 +1,4 @@
 pub mod Walks
 pub mod Available
+pub mod Typed
+pub mod Formed

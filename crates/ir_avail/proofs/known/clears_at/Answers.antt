@@ -1,4 +1,4 @@
-use Rattle.std.proofs.Common.{ℕ, sym, subst}
+use Rattle.std.proofs.Common.{ℕ, subst}
 use Rattle.ir_types.specs.Available.{insts_at}
 use Rattle.ir_avail.specs.Places.{StandsAt}
 use Rattle.ir_avail.proofs.Stands.{available_last, defines_before, clear_available}

@@ -1,4 +1,4 @@
-use Rattle.std.proofs.Common.{◌≡◌, ℕ, ◌+◌, ◌-◌, Bool, List, [], ◌++◌, ◌∙◌, ap, sym, subst, arith, append-nil}
+use Rattle.std.proofs.Common.{◌≡◌, ℕ, ◌+◌, ◌-◌, List, [], ◌∙◌, ap, sym, subst, arith, append-nil}
 use Rattle.std.specs.declared.option.Option.TheVariants.{Some}
 use Rattle.ir_avail.specs.Avoids.{distance_at, IsLeast}
 use Rattle.ir_avail.proofs.Leasts.{Leads, least_nil, leads_step, some_target}

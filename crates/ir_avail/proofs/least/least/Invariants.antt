@@ -1,4 +1,4 @@
-use Rattle.std.proofs.Common.{◌≡◌, ℕ, Bool, ◌<◌, length}
+use Rattle.std.proofs.Common.{◌≡◌, ℕ, Bool}
 use Rattle.std.specs.declared.option.Option.TheVariants.{Some}
 use Rattle.ir_avail.specs.Avoids.{distance_at, AreDistances}
 use Rattle.ir_avail.proofs.Leasts.{Leads}

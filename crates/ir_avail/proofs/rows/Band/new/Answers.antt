@@ -1,4 +1,3 @@
-use Rattle.std.proofs.Common.{refl}
 use Rattle.ir_avail.proofs.Bits.{band_made, band_full}
 use Rattle.ir_avail.proofs.rows.Band.new.Goals as goal
 
