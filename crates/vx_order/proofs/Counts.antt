@@ -1,11 +1,11 @@
 -- Counts that go up or down by one, and rows that grow by one.
-use Rattle.std.proofs.Common.{zero, suc, ◌≡◌, ◌≢◌, ℕ, ◌+◌, ◌-◌, ◌<◌, ◌≤◌, ◌==◌, ◌⊎◌, ◌&&◌, ◌||◌, cond, List, [], ◌∷◌, ◌++◌, length, Bool, true, false, Some, refl, sym, ◌∙◌, ap, subst, inl, inr, arith, count_by, sum_by, slice_index, set, get_or, take, drop, nat_lt, map, filter}
+use Rattle.std.proofs.Common.{◌≡◌, ◌≢◌, ℕ, ◌+◌, ◌-◌, ◌<◌, ◌≤◌, ◌==◌, ◌⊎◌, ◌&&◌, ◌||◌, cond, List, length, Bool, true, false, Some, refl, sym, ◌∙◌, ap, subst, inl, inr, arith, count_by, slice_index, set, get_or, take, drop, nat_lt}
 use Rattle.std.specs.Ordering.{nat_cmp, is_eq}
 use Rattle.std.proofs.lemmas.Bool.Decides.{nat_tests}
 use Rattle.std.proofs.lemmas.Option.{slice_get-get_or, get_or_from_slice_get}
 use Rattle.std.proofs.lemmas.List.{get_or-set_same, get_or-set_other}
 use Rattle.std.proofs.lemmas.List.Sums.{sum_by-drop_more, count_by_more_yes, count_by_more_no, count_by-le-length, sum_by-take-le}
-use Rattle.vx_order.specs.Walks.{tally, ends_from}
+use Rattle.vx_order.specs.Walks.{tally}
 
 -- what a test adds to a count
 abbrev pub bit : Bool → ℕ

@@ -1,6 +1,6 @@
 -- Groups that partition the places: owners and positions, and what edges between places are between groups.
-use Rattle.std.proofs.Common.{◌≡◌, ◌≢◌, ℕ, zero, suc, ◌+◌, ◌<◌, ◌≤◌, ◌==◌, ◌⊎◌, cond, min, List, [], ◌∷◌, length, Bool, true, false, Option, Some, None, Contains, All, refl, sym, ◌∙◌, ap, subst, inl, inr, arith, find, filter, map, sum_by, slice_index, slice_get, get_or}
-use Rattle.std.specs.List.{position_or_len, range_with_len}
+use Rattle.std.proofs.Common.{◌≡◌, ℕ, zero, suc, ◌+◌, ◌<◌, ◌≤◌, ◌==◌, ◌⊎◌, cond, min, List, [], ◌∷◌, length, Bool, true, false, Some, Contains, All, refl, sym, ◌∙◌, ap, subst, inl, inr, arith, find, filter, map, slice_index, slice_get, get_or}
+use Rattle.std.specs.List.{range_with_len}
 use Rattle.std.proofs.lemmas.Bool.Decides.{nat_tests}
 use Rattle.std.proofs.lemmas.Option.{slice_get-get_or}
 use Rattle.std.proofs.lemmas.List.Elements.{All-cons, All-tail, All-head}

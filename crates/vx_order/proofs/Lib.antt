@@ -2,5 +2,6 @@
 pub mod Placing
 pub mod Trails
 pub mod Counts
+mod Examples
 pub mod Holding
 pub mod Stuck

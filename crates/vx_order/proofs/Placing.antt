@@ -1,12 +1,12 @@
 -- What holds while nodes are placed: the counts are of open links, and the set has the nodes that may come next.
-use Rattle.std.proofs.Common.{◌≡◌, ◌≢◌, ℕ, ◌+◌, ◌<◌, ◌≤◌, ◌==◌, ◌⊎◌, ◌&&◌, ◌||◌, not, cond, List, [], ◌∷◌, ◌++◌, length, Bool, true, false, Option, Some, None, Contains, refl, sym, ◌∙◌, ap, subst, inl, inr, arith, find, count_by, slice_index, slice_get, drop, nat_lt, get_or, option_and_then, map, filter}
-use Rattle.std.specs.List.{list_all, list_any}
+use Rattle.std.proofs.Common.{◌≡◌, ℕ, ◌+◌, ◌<◌, ◌≤◌, ◌==◌, ◌⊎◌, ◌&&◌, ◌||◌, not, cond, List, [], ◌∷◌, ◌++◌, Bool, true, false, Some, None, refl, sym, ◌∙◌, ap, subst, inl, inr, arith, find, count_by, slice_index, nat_lt, map, filter}
+use Rattle.std.specs.List.{list_all}
 use Rattle.std.proofs.lemmas.Bool.Decides.{nat_tests}
 use Rattle.std.proofs.lemmas.List.Sums.{sum_by-cons}
 use Rattle.vx_order.proofs.Counts.{bit}
 use Rattle.vx_order.specs.Groups.{has}
-use Rattle.vx_order.specs.Order.{is_ready, next, place, order_on}
-use Rattle.vx_order.specs.Walks.{Ascends, AreLinks, tally, ends_from}
+use Rattle.vx_order.specs.Order.{is_ready, next}
+use Rattle.vx_order.specs.Walks.{Ascends, tally, ends_from}
 
 -- the number of links to a node from nodes that are not placed
 abbrev pub open_links : List (ℕ × ℕ) → List ℕ → ℕ → ℕ

@@ -1,5 +1,5 @@
 -- What is known of members, of ends of links, and where no node may come next.
-use Rattle.std.proofs.Common.{◌≡◌, ◌≢◌, ℕ, zero, suc, ◌+◌, ◌<◌, ◌≤◌, ◌==◌, ◌⊎◌, ◌&&◌, ◌||◌, not, cond, List, [], ◌∷◌, ◌++◌, length, Bool, true, false, Option, Some, None, Contains, All, refl, sym, ◌∙◌, ap, subst, inl, inr, arith, count_by, filter, map, slice_index, drop, get_or, option_and_then, add-one, drop-cons}
+use Rattle.std.proofs.Common.{◌≡◌, ◌≢◌, ℕ, zero, suc, ◌+◌, ◌<◌, ◌≤◌, ◌==◌, ◌⊎◌, ◌&&◌, not, cond, List, [], ◌∷◌, ◌++◌, length, Bool, true, false, Some, None, Contains, All, refl, sym, ◌∙◌, ap, subst, inl, inr, arith, count_by, filter, map, slice_index, drop, get_or, option_and_then, add-one, drop-cons}
 use Rattle.std.specs.List.{list_any}
 use Rattle.std.specs.Ordering.{nat_cmp, is_eq, is_gt}
 use Rattle.std.specs.BTreeSet.{contains, btree_set_len, BTreeSet}
@@ -12,7 +12,7 @@ use Rattle.vx_order.specs.Order.{next, place, order_on}
 use Rattle.vx_order.specs.Walks.{Ascends, AreLinks, tally, ends_from}
 use Rattle.vx_order.specs.Backward.{IsOpenBefore}
 use Rattle.vx_order.proofs.Counts.{bit}
-use Rattle.vx_order.proofs.Placing.{IsUnderWay, open_links, open_split, both, head_or_more, at_head, in_more, ascends_has}
+use Rattle.vx_order.proofs.Placing.{IsUnderWay, open_split, both, head_or_more, at_head, in_more, ascends_has}
 
 -- the place of a member
 pub has_at : (xs : List ℕ) (v : ℕ) → has xs v ≡ true → (k : ℕ) × (k < length xs) × (slice_index xs k ≡ v)

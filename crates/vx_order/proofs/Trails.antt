@@ -1,6 +1,5 @@
 -- Trails of links, followed backward, and the cycle in one that comes back.
-use Rattle.std.proofs.Common.{◌≡◌, ◌≢◌, ℕ, ◌+◌, ◌<◌, ◌≤◌, ◌==◌, ◌⊎◌, ◌||◌, cond, zero, suc, List, [], ◌∷◌, ◌++◌, length, Bool, true, false, Some, Contains, All, refl, sym, ◌∙◌, ap, subst, inl, inr, arith, slice_index, slice_get, slice_set, get_or, reverse}
-use Rattle.std.specs.List.{list_any}
+use Rattle.std.proofs.Common.{◌≡◌, ◌≢◌, ℕ, ◌+◌, ◌<◌, ◌≤◌, ◌==◌, ◌⊎◌, ◌||◌, List, [], ◌∷◌, ◌++◌, length, Bool, true, false, Some, Contains, All, refl, sym, ◌∙◌, ap, subst, inl, inr, arith, slice_index, slice_get, slice_set, get_or, reverse}
 use Rattle.std.proofs.lemmas.Bool.Decides.{nat_tests}
 use Rattle.std.proofs.lemmas.List.{reverse-append}
 use Rattle.std.proofs.lemmas.Option.{slice_get_within, slice_get-get_or, get_or_from_slice_get}
@@ -9,8 +8,8 @@ use Rattle.std.proofs.lemmas.List.Sorted.{list_any-IsPermutation, IsPermutation-
 use Rattle.vx_order.proofs.Counts.{one_or_other, set_apart}
 use Rattle.vx_order.proofs.Placing.{head_or_more, at_head, in_more, has-append}
 use Rattle.vx_order.specs.Groups.{has}
-use Rattle.vx_order.specs.Order.{Leads, IsCycle}
-use Rattle.vx_order.specs.Backward.{IsOpenBefore, HasOpenBefore, IsTrail}
+use Rattle.vx_order.specs.Order.{Leads}
+use Rattle.vx_order.specs.Backward.{IsOpenBefore, IsTrail}
 
 -- a trail that comes back to `to` leads to it
 pub leads_from_trail : (links : List (ℕ × ℕ)) (at to : ℕ) (front rest : List ℕ) → IsTrail links at (front ++ to ∷ rest) → Leads links at front to

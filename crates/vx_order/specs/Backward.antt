@@ -1,5 +1,5 @@
 -- Links followed backward among numbers with open links.
-use Rattle.std.specs.Prelude.{◌≡◌, ℕ, ◌<◌, List, [], ◌∷◌, Contains, slice_index, length}
+use Rattle.std.specs.Prelude.{ℕ, ◌<◌, List, [], ◌∷◌, Contains, slice_index, length}
 
 -- there is a link from `u`, which has open links too, to `v`
 pub record IsOpenBefore (links : List (ℕ × ℕ)) (open_links : List ℕ) (u v : ℕ) : Type 0 where

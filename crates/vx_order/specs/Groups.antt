@@ -1,5 +1,5 @@
 -- Groups of places: which group holds a place, a group's position, and edges between places drawn together to their groups.
-use Rattle.std.specs.Prelude.{◌≡◌, ℕ, ◌+◌, ◌<◌, ◌≤◌, ◌^◌, ◌==◌, Bool, true, List, [], ◌∷◌, Option, Some, None, All, min, length, map, filter, sum_by, find, slice_get}
+use Rattle.std.specs.Prelude.{◌≡◌, ℕ, ◌<◌, ◌≤◌, ◌^◌, ◌==◌, Bool, true, List, [], ◌∷◌, Option, Some, None, All, min, length, map, filter, sum_by, find, slice_get}
 use Rattle.std.specs.List.{list_any, position_or_len, range_with_len}
 
 -- whether a number stands in a list

@@ -1,5 +1,5 @@
 -- The table of groups: what is kept for each place.
-use Rattle.std.specs.Prelude.{◌≡◌, ℕ, ◌<◌, ◌==◌, suc, cond, List, [], ◌∷◌, length, slice_index}
+use Rattle.std.specs.Prelude.{◌≡◌, ℕ, ◌<◌, List, length, slice_index}
 use Rattle.vx_order.specs.Groups.{owner_of, position_of, size}
 use Rattle.vx_order.specs.declared.table.Table.{Table}
 

@@ -1,5 +1,5 @@
 -- Counts and ends of links, and what a refusal means for nodes.
-use Rattle.std.specs.Prelude.{◌≡◌, ℕ, ◌+◌, ◌≤◌, ◌==◌, [], ◌∷◌, Bool, true, List, Option, None, All, map, filter, count_by}
+use Rattle.std.specs.Prelude.{◌≡◌, ℕ, ◌+◌, ◌≤◌, ◌==◌, [], ◌∷◌, true, List, None, All, map, filter, count_by}
 use Rattle.vx_order.specs.Groups.{has}
 use Rattle.vx_order.specs.Order.{order_on, IsCycle}
 use Rattle.vx_order.specs.declared.refusal.OrderRefusal.{OrderRefusal}

@@ -34,7 +34,7 @@ fn a_cycle_is_kept(rt: HostRuntime) -> Result<(), Fail> {
             assert_eq!(rt; cycle.len(), 2);
             let first = *cycle.get(0).expect(&rt, "a group");
             let second = *cycle.get(1).expect(&rt, "a group");
-            assert!(rt; first + second == 1 && first != second);
+            assert!(rt; first < 2 && second < 2 && first != second);
         }
         _ => panic!(rt; "there is no order"),
     }

@@ -1,6 +1,6 @@
 -- The order of positions is the order of groups, and a cycle of positions one of groups.
-use Rattle.std.proofs.Common.{◌≡◌, ◌<◌, ◌==◌, ℕ, List, All, Some, None, true, length, arith, ◌∙◌, ap, sym, subst, map, option_map, slice_index}
-use Rattle.vx_order.specs.Groups.{has, owner_of, position_of, positions, links_of, contracted, size}
+use Rattle.std.proofs.Common.{◌≡◌, ◌<◌, ◌==◌, ℕ, List, All, Some, arith, ◌∙◌, ap, sym, subst, map, option_map, slice_index}
+use Rattle.vx_order.specs.Groups.{owner_of, position_of, positions, links_of, contracted, size}
 use Rattle.vx_order.specs.Order.{order_on, IsCycle}
 use Rattle.vx_order.specs.Tables.{IsTableOf}
 use Rattle.vx_order.specs.Walks.{Ascends, AreLinks, RefusesNodes}

@@ -1,6 +1,5 @@
 -- A link from a number with open links is kept for its end.
-use Rattle.std.proofs.Common.{arith, length-set, length, ◌≡◌, ◌≤◌, ◌<◌, ◌∙◌, ap, sym, subst, slice_index, slice_set, get_or}
-use Rattle.vx_order.specs.Backward.{IsOpenBefore}
+use Rattle.std.proofs.Common.{arith, length-set, ◌∙◌}
 use Rattle.vx_order.proofs.Trails.{before_set, before_kept, all_before}
 use Rattle.vx_order.proofs.cycle.before_each.Goals as goal
 use Rattle.vx_order.proofs.cycle.before_each.Goals.{then-counts-from-gt0, else-counts-from-gt0}

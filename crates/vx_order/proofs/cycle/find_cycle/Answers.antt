@@ -1,5 +1,5 @@
 -- The trail goes on backward, and where it comes back it is a cycle.
-use Rattle.std.proofs.Common.{◌≡◌, ◌<◌, ◌++◌, ◌∷◌, [], true, false, length, arith, length-set, ◌∙◌, ap, sym, subst, inl, inr, slice_index, Contains, reverse, slice_set, get_or}
+use Rattle.std.proofs.Common.{◌≡◌, ◌<◌, ◌++◌, ◌∷◌, [], true, length, arith, length-set, ◌∙◌, ap, sym, subst, inl, inr, slice_index, reverse}
 use Rattle.vx_order.specs.Groups.{has}
 use Rattle.vx_order.specs.Order.{IsCycle}
 use Rattle.vx_order.specs.Backward.{IsOpenBefore, IsTrail}

@@ -1,5 +1,5 @@
 -- The trail so far, and what was met on it.
-use Rattle.std.proofs.Common.{◌≡◌, ℕ, ◌<◌, true, false, not, All, length, reverse, count_by, get_or, slice_index}
+use Rattle.std.proofs.Common.{◌≡◌, ℕ, ◌<◌, true, false, not, length, reverse, count_by, get_or, slice_index}
 use Rattle.vx_order.specs.Groups.{has}
 use Rattle.vx_order.specs.Backward.{IsTrail}
 use Rattle.vx_order.proofs.cycle.find_cycle.Given as goal

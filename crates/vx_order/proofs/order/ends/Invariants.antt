@@ -1,5 +1,5 @@
 -- The links so far and those to come are all.
-use Rattle.std.proofs.Common.{◌≡◌, ℕ, ◌+◌, [], ◌++◌, drop, length, get_or}
+use Rattle.std.proofs.Common.{◌≡◌, ℕ, [], ◌++◌, drop, length, get_or}
 use Rattle.vx_order.specs.Walks.{ends_from}
 use Rattle.vx_order.proofs.order.ends.Given as goal
 

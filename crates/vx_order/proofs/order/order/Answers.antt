@@ -1,6 +1,6 @@
 -- Each turn places the next node; where there is none, a cycle is left.
-use Rattle.std.proofs.Common.{◌≡◌, ◌<◌, ◌≤◌, ◌+◌, ◌++◌, ◌∷◌, ◌==◌, ◌||◌, ◌&&◌, [], true, false, cond, Bool, ℕ, Some, None, length, arith, ◌∙◌, ap, sym, subst, slice_index, get_or, All, List, not, drop, nat_lt}
-use Rattle.std.specs.Ordering.{nat_cmp, is_eq}
+use Rattle.std.proofs.Common.{◌≡◌, ◌<◌, ◌≤◌, ◌+◌, ◌++◌, ◌∷◌, ◌==◌, ◌||◌, ◌&&◌, [], true, false, cond, ℕ, Some, length, arith, ◌∙◌, ap, sym, subst, slice_index, All, List, not, drop, nat_lt}
+use Rattle.std.specs.Ordering.{nat_cmp}
 use Rattle.std.specs.BTreeSet.{contains}
 use Rattle.vx_order.specs.Groups.{has}
 use Rattle.vx_order.specs.Order.{next, place, order_on}

@@ -1,5 +1,5 @@
 -- The nodes so far are the front of the order, and the counts and the set say what may come next.
-use Rattle.std.proofs.Common.{◌≡◌, ℕ, ◌<◌, All, drop, length}
+use Rattle.std.proofs.Common.{◌≡◌, ◌<◌, All, drop, length}
 use Rattle.std.specs.Ordering.{nat_cmp}
 use Rattle.std.specs.BTreeSet.{contains}
 use Rattle.vx_order.specs.Order.{place, order_on}

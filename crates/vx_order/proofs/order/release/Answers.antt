@@ -1,5 +1,5 @@
 -- Each end takes one from its count; a count that came to 0 puts it into the set.
-use Rattle.std.proofs.Common.{◌≡◌, ℕ, ◌+◌, ◌-◌, ◌<◌, ◌≤◌, ◌==◌, ◌&&◌, ◌||◌, true, false, cond, Bool, length, arith, length-set, ◌∙◌, slice_index, sym, ap, take, get_or, set}
+use Rattle.std.proofs.Common.{◌≡◌, ℕ, ◌+◌, ◌-◌, ◌<◌, ◌≤◌, length, arith, length-set, ◌∙◌, slice_index, sym, ap, take, set}
 use Rattle.std.specs.Ordering.{nat_cmp}
 use Rattle.std.specs.BTreeSet.{contains}
 use Rattle.vx_order.specs.Walks.{tally}

@@ -1,5 +1,5 @@
 -- Each group puts its number and its position at its members.
-use Rattle.std.proofs.Common.{◌≡◌, ◌<◌, ◌≤◌, ◌+◌, ◌^◌, [], ℕ, List, All, cond, length, arith, ◌∙◌, ap, sym, subst, slice_index, get_or}
+use Rattle.std.proofs.Common.{◌≡◌, ◌<◌, [], ℕ, List, All, cond, arith, ◌∙◌, ap, sym, subst, slice_index, get_or}
 use Rattle.vx_order.specs.Groups.{has, owner_of, position_of, least, size}
 use Rattle.vx_order.proofs.Stuck.{row_at}
 use Rattle.vx_order.proofs.Holding.{groups_few, entry, position_is}
