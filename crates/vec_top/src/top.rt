@@ -21,20 +21,20 @@ use vx_serial::pair;
 const BYTE_LIMIT: u64 = 16_777_216;
 
 /// The text of a module that was read, as a command makes it.
-fn text_of(alloc: Global, command: Command, module: &Module) -> Result<Vec<u8>, Fault>
-    ensures { replies.TextOf command module.now result }
+fn text_of(alloc: Global, command: Command, read: &Module) -> Result<Vec<u8>, Fault>
+    ensures { replies.TextOf command read.now result }
 {
     match command {
-        Command::Print => print(alloc, module).map_err(|_| Fault::NoMemory),
-        Command::Opt => optimized(alloc, module),
+        Command::Print => print(alloc, read).map_err(|_| Fault::NoMemory),
+        Command::Opt => optimized(alloc, read),
     }
 }
 
-fn optimized(alloc: Global, module: &Module) -> Result<Vec<u8>, Fault>
-    ensures { replies.TextOf Command.Opt module.now result }
+fn optimized(alloc: Global, read: &Module) -> Result<Vec<u8>, Fault>
+    ensures { replies.TextOf Command.Opt read.now result }
 {
     pair_refines();
-    match pair(alloc, module) {
+    match pair(alloc, read) {
         Ok(new) => match print(alloc, &new) {
             Ok(text) => Ok(text),
             Err(_) => Err(Fault::NoMemory),

@@ -1,0 +1,105 @@
+#!/usr/bin/env python3
+"""Writes docs/DEFINITIONS.md: each definition by its plain name, with the file and the line where it stands now.
+
+Run it at the top of the repository after definitions have moved. It fails, naming the definition, where one is not found.
+"""
+import pathlib
+import re
+import sys
+
+ROWS = [
+    ("Modules", None, None, None, None),
+    ("a module", "Items in order: kept lines, opaque functions, functions of the profile; the names of the globals; the first line that says big-endian.", "ir_types/src/module.rt", "pub struct Module", "Module Structure"),
+    ("an instruction", "An id, a written name, the type of the result (of a store, of the value), an operation, and operands in the order of the form.", "ir_types/src/inst.rt", "pub struct Inst", "Instruction Reference"),
+    ("an id", "Region 0 for what was read, counted over parameters and instructions; a region's number plus 1 for what its rewriting created.", "ir_types/src/id.rt", "pub struct Id", None),
+    ("a walk", "A list of block numbers that starts at 0, each next one a target of the one before.", "ir_types/specs/Walks.antt", "IsWalk", "Terminator Instructions"),
+    ("availability", "Along every walk to a use the definition stands before it.", "ir_types/specs/Available.antt", "IsAvailable", "Well-Formedness"),
+    ("the first use that is not available", "In order of text and slot, with its shortest and among those least walk.", "ir_types/specs/Available.antt", "IsFirstMiss", "Well-Formedness"),
+    ("Tokens and lines", None, None, None, None),
+    ("a token", "A name, a quoted name, `%` and digits, a string, a mark and its run, a run, or a single byte.", "ir_lex/specs/Tokens.antt", "IsToken", "Identifiers"),
+    ("the longest token", "A token begins here, and none that begins here has more bytes.", "ir_lex/specs/Tokens.antt", "Longest", None),
+    ("the tokens of a line", "Blanks are passed over, a comment ends them, and any other byte begins the longest token.", "ir_lex/specs/Tokens.antt", "AreTokens", None),
+    ("a lexical fault", "A control byte, or the opening quote of a string that does not close.", "ir_lex/specs/Faults.antt", "is_fault", None),
+    ("the first fault", "A fault with none before it.", "ir_lex/specs/Faults.antt", "FirstFault", None),
+    ("the words of a line", "The bytes of its tokens.", "ir_lex/specs/Words.antt", "words", None),
+    ("The text of a module", None, None, None, None),
+    ("the text of a module", "Its items in order, with an empty line between a function and the item next to it.", "ir_print/specs/Text.antt", "text_of", "Module Structure"),
+    ("the text of a function", "Header, blocks with their labels, instructions, closing brace.", "ir_print/specs/Text.antt", "func_text", "Functions"),
+    ("the text of an instruction", "One definition a form.", "ir_print/specs/Instructions.antt", "act_text", "Instruction Reference"),
+    ("names and numbers", "What has a written name shows it; the rest is numbered by one counter in order of the text.", "ir_print/specs/Names.antt", "names_of", "Identifiers"),
+    ("the text of a literal", "Signed decimals, truth values, `poison`, `zeroinitializer`, or a list of lanes.", "ir_print/specs/Literals.antt", "literal_text", "Constants"),
+    ("Lane arithmetic", None, None, None, None),
+    ("a binary operation on lanes", "Undefined where a division is, else poison where an operand is, else the operation's row.", "vx_num/specs/Bin.antt", "bin_of", "Binary Operations"),
+    ("a comparison of lanes", "1 where it holds, 0 where not.", "vx_num/specs/Cmp.antt", "cmp_of", "'icmp' Instruction"),
+    ("a conversion of lanes", "Zero or sign extension, or truncation.", "vx_num/specs/Cast.antt", "cast_of", "Conversion Operations"),
+    ("the address rule", "Offset plus sign-extended index times scale, modulo 2^64 as signed.", "vx_num/specs/Advance.antt", "advance_of", "'getelementptr' Instruction"),
+    ("finer lanes", "The old one is poison, or both are the same.", "vx_num/specs/Refines.antt", "LaneRefines", "Poison Values"),
+    ("Meanings", None, None, None, None),
+    ("values", "A lane, a row of lanes, or a pointer: an object and a signed offset; each may be poison.", "ir_model/src/value.rt", "pub enum Value", "Poison Values"),
+    ("one value may stand for another", "Lane by lane the old one is poison or both are the same.", "ir_model/specs/Values.antt", "ValueRefines", "Poison Values"),
+    ("one memory may stand for another", "The objects agree in number and length, and each byte may stand for its mate.", "ir_model/specs/Memory.antt", "MemoryRefines", None),
+    ("a store, a load", "Undefined where the range is not inside the object or the offset is no multiple of the align; little-endian.", "ir_model/specs/Memory.antt", "stored", "'store' Instruction, 'load' Instruction"),
+    ("fitting arguments", "Types and ranges right, pointers poison or into an object, objects at most 2^47 bytes, the globals first.", "ir_model/specs/Fits.antt", "Fits", None),
+    ("one step", "What an instruction does to the environment and the memory, by one row for each form.", "ir_model/specs/Step.antt", "step_of", "Instruction Reference"),
+    ("a bounded run", "Before each block the bound is looked at; phis read at once; a `noalias` argument that is shared makes the start undefined.", "ir_model/specs/Run.antt", "run_of", "Functions, Parameter Attributes"),
+    ("one outcome may stand for another", "The old run is undefined, or both end alike and value and memory refine.", "ir_model/specs/Refines.antt", "OutcomeRefines", None),
+    ("one module refines another", "The same items and headers, and for every function, fitting arguments and memory and every bound a finer outcome.", "ir_model/specs/Refines.antt", "ModuleRefines", None),
+    ("What the optimizer writes", None, None, None, None),
+    ("two neighbouring stores joined", "The least pair of stores of literals, 4 bytes apart from one parameter with no load or store between, becomes one vector store.", "vx_serial/specs/Pair.antt", "pair_of", None),
+    ("that pair is the least by places", "By the first store's place and then by the second's.", "vx_serial/specs/PairPlaces.antt", "JoinsLeast", None),
+    ("a store of lanes", "The memory after the store instructions of neighbouring lanes.", "rf_pack/specs/Lanes.antt", "after_stores", "'store' Instruction"),
+    ("Costs and orders", None, None, None, None),
+    ("what an instruction costs", "By the key of its kind, with a `v` where it is of vectors.", "vx_cost/specs/Price.antt", "cost_of", None),
+    ("a price", "The sum of the costs, or 2^64 - 1 where the sum is greater.", "vx_cost/specs/Price.antt", "price_of", None),
+    ("Threads", None, None, None, None),
+    ("the rule of the tickets", "What holds of the word and of all hands between any two steps.", "rg_ticket/specs/Rule.antt", "IsKept", None),
+    ("each number once", "Numbers below the limit alone, each once at most.", "rg_ticket/specs/Hands.antt", "IsEachOnce", None),
+    ("Streams", None, None, None, None),
+    ("a count rose", "It is greater than before, or stands at the last value of a counter.", "vx_io/specs/Count.antt", "Rose", None),
+    ("a proper front was taken", "What was taken grew by a front of the bytes that lacks one or more.", "vx_io/specs/Bytes.antt", "AppendsFront", None),
+    ("The program", None, None, None, None),
+    ("the lines of a text", "Each ends at a line feed, a carriage return just before that is dropped, and a last piece is a line where it is not empty.", "vec_top/specs/Lines.antt", "lines_of", None),
+    ("the first forms", "What a statement's words say, where some names are known.", "vec_top/specs/Forms.antt", "value_form", "Instruction Reference"),
+    ("a text is a module", "Blank lines, a header, statements that end with the return, a closing brace, blank lines; or blank lines alone.", "vec_top/specs/Reads.antt", "Reads", None),
+    ("the first line that cannot stand", "The module of a text, or that line's number.", "vec_top/specs/Reads.antt", "module_of", None),
+    ("what the words ask for", "`print` alone or `opt` alone, or the place of the first word that cannot stand.", "vec_top/specs/Replies.antt", "command_in", None),
+    ("the replies", "What stands after each way to the end: each stream, each count, each text.", "vec_top/specs/Replies.antt", "Replies", None),
+]
+
+
+def line_of(path, name):
+    """The line on which a definition's name stands as a definition."""
+    if name.startswith("pub "):
+        pattern = re.compile(re.escape(name) + r"\b")
+    else:
+        pattern = re.compile(r"^\s*(abbrev |unfoldable )?(pub )?(record |data )?" + re.escape(name) + r"\b[^=]*(:|\()")
+    for number, line in enumerate(path.read_text().splitlines(), 1):
+        if pattern.search(line):
+            return number
+    return None
+
+
+def main():
+    top = pathlib.Path(__file__).resolve().parent.parent
+    out = ["# Definitions", "", "What a reader must believe: each definition by its plain name, what it says, where it stands, and the section of the LLVM",
+           "Language Reference that it follows, where there is one. `scripts/definitions.py` writes this page.", ""]
+    missing = []
+    for plain, says, path, name, section in ROWS:
+        if says is None:
+            out += [f"## {plain}", "", "| Name | Says | Where | Language Reference |", "|---|---|---|---|"]
+            continue
+        file = top / "crates" / path
+        number = line_of(file, name) if file.is_file() else None
+        if number is None:
+            missing.append(f"{name} in {path}")
+            continue
+        shown = name.split()[-1]
+        out.append(f"| {plain} | {says} | `{shown}`, crates/{path}:{number} | {section or ''} |")
+    text = "\n".join(out).replace("\n## ", "\n\n## ") + "\n"
+    (top / "docs" / "DEFINITIONS.md").write_text(text)
+    for name in missing:
+        print(f"not found: {name}", file=sys.stderr)
+    return 1 if missing else 0
+
+
+sys.exit(main())
