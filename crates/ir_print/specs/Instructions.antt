@@ -89,9 +89,13 @@ abbrev pub stepped_text : Elem → Bool → List ℕ
 stepped_text e inbounds = codes "getelementptr" ++ (flag_text inbounds (codes "inbounds") ++ (codes " " ++ elem_text e))
 
 -- an `alloca`, with its align where that was given
+-- an align, behind a comma
+abbrev pub align_text : ℕ → List ℕ
+align_text n = codes ", align " ++ decimal n
+
 abbrev pub given_align : Option ℕ → List ℕ
 given_align None = []
-given_align (Some n) = codes ", align " ++ decimal n
+given_align (Some n) = align_text n
 
 abbrev pub alloca_text : Elem → Option ℕ → List ℕ
 alloca_text e align = codes "alloca " ++ (elem_text e ++ given_align align)
@@ -167,10 +171,10 @@ module _ (ns : Names) (gs : List (List ℕ)) where
   gep_text e inbounds os = stepped_text e inbounds ++ indices_text os
 
   abbrev pub load_text : ℕ → Ty → List Opd → List ℕ
-  load_text align ty os = codes "load " ++ (ty_text ty ++ (codes ", ptr " ++ (bare_at ns gs (slice_get os 0) ++ (codes ", align " ++ decimal align))))
+  load_text align ty os = codes "load " ++ (ty_text ty ++ (codes ", ptr " ++ (bare_at ns gs (slice_get os 0) ++ align_text align)))
 
   abbrev pub store_text : ℕ → Ty → List Opd → List ℕ
-  store_text align ty os = codes "store " ++ (ty_text ty ++ (codes " " ++ (bare_at ns gs (slice_get os 0) ++ (codes ", ptr " ++ (bare_at ns gs (slice_get os 1) ++ (codes ", align " ++ decimal align))))))
+  store_text align ty os = codes "store " ++ (ty_text ty ++ (codes " " ++ (bare_at ns gs (slice_get os 0) ++ (codes ", ptr " ++ (bare_at ns gs (slice_get os 1) ++ align_text align)))))
 
   -- operations on the flow of control
 

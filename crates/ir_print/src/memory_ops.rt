@@ -53,6 +53,15 @@ pub(crate) fn push_gep(
     Ok(())
 }
 
+/// An align, behind a comma.
+fn push_align(out: &mut Vec<u8>, align: u64) -> Result<(), AllocError>
+    ensures { OnOk result (out.new.items ≡ out.old.items ++ instructions.align_text align) }
+{
+    out.extend_from_slice(b", align ")?;
+    push_decimal(out, align)?;
+    Ok(())
+}
+
 /// A `load`.
 pub(crate) fn push_load(
     out: &mut Vec<u8>,
@@ -68,8 +77,7 @@ pub(crate) fn push_load(
     push_ty(out, ty)?;
     out.extend_from_slice(b", ptr ")?;
     push_bare_at(out, names, globals, opds, 0)?;
-    out.extend_from_slice(b", align ")?;
-    push_decimal(out, align)?;
+    push_align(out, align)?;
     Ok(())
 }
 
@@ -90,8 +98,7 @@ pub(crate) fn push_store(
     push_bare_at(out, names, globals, opds, 0)?;
     out.extend_from_slice(b", ptr ")?;
     push_bare_at(out, names, globals, opds, 1)?;
-    out.extend_from_slice(b", align ")?;
-    push_decimal(out, align)?;
+    push_align(out, align)?;
     Ok(())
 }
 
@@ -100,11 +107,7 @@ fn push_given_align(out: &mut Vec<u8>, align: Option<u64>) -> Result<(), AllocEr
 {
     match align {
         None => Ok(()),
-        Some(align) => {
-            out.extend_from_slice(b", align ")?;
-            push_decimal(out, align)?;
-            Ok(())
-        }
+        Some(align) => push_align(out, align),
     }
 }
 
