@@ -301,4 +301,3 @@ typed_taken k ts x e =
 pub typed_takes : (k : Kind) (a : Arg) (ts rest : Words) → SpellsTyped k a ts rest → typed_at k ts ≡ Some (a, rest)
 unfolding typed_at
 typed_takes k a ts rest s = rw (kind_takes k a.ty ts s.behind s.type, operand_takes s.operand) refl
-

@@ -315,9 +315,11 @@ unfolding bits_number decimal_of number_of one_more
 bits_colon w = refl
 
 case_no_label : (k : Kind) (t : Ty) (n : ℕ) (l : List Slot) → Skips Labelled (slot (OfKind k) t ∷ slot (Case t) n ∷ l)
-case_no_label k t n l = record { skips = λ ts s.
-    let h : is_first (codes ":") s.0 ≡ false = rw s.2.1.first (apart (bits_number (bits_of t)) (codes ":") s.2.1.word n (bits_colon (bits_of t)) s.2.1.says) in
-    ty_no_labelled s.1.spelled h }
+case_no_label k t n l = record {
+  skips = λ ts s.
+      let h : is_first (codes ":") s.0 ≡ false = rw s.2.1.first (apart (bits_number (bits_of t)) (codes ":") s.2.1.word n (bits_colon (bits_of t)) s.2.1.says) in
+      ty_no_labelled s.1.spelled h;
+}
 
 close_no_label : Skips Labelled (word (codes "]") ∷ [])
 close_no_label = record { skips = λ ts s. let h : is_first (codes ":") s.0 ≡ false = rw s.2 refl in colon_not _ ts s.0 s.1 h }

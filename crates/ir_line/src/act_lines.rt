@@ -43,7 +43,13 @@ fn stored(alloc: Global, value: Arg, pointer: Arg, align: u64) -> Result<Line, S
     let mut args = Args::new(alloc);
     args.push(value)?;
     args.push(pointer)?;
-    Ok(Line::Stmt(Stmt { result: None, ty, op: Op::Store { align }, args, labels: Names::new(alloc) }))
+    Ok(Line::Stmt(Stmt {
+        result: None,
+        ty,
+        op: Op::Store { align },
+        args,
+        labels: Names::new(alloc),
+    }))
 }
 
 /// One operand.
@@ -68,7 +74,13 @@ fn one_label(alloc: Global, label: Bytes) -> Result<Names, AllocError>
 fn does(op: Op, args: Args, labels: Names) -> Line
     ensures { result ≡ forms.does Void op args labels }
 {
-    Line::Stmt(Stmt { result: None, ty: Ty::Void, op, args, labels })
+    Line::Stmt(Stmt {
+        result: None,
+        ty: Ty::Void,
+        op,
+        args,
+        labels,
+    })
 }
 
 /// A return of a value.
@@ -77,7 +89,11 @@ fn return_value(alloc: Global, line: &[u8], tokens: &[Token]) -> Result<Line, St
     ensures { Gives (λ x. x) result (read forms.line_of forms.return_value (words line.now tokens.now)) }
 {
     let (value, rest) = typed(alloc, Kind::Value, line, tokens)?;
-    finish(line, rest, does(Op::Ret, one_arg(alloc, value)?, Names::new(alloc)))
+    finish(
+        line,
+        rest,
+        does(Op::Ret, one_arg(alloc, value)?, Names::new(alloc)),
+    )
 }
 
 /// A return.
@@ -86,7 +102,11 @@ fn returns(alloc: Global, line: &[u8], tokens: &[Token]) -> Result<Line, Stop>
     ensures { Gives (λ x. x) result (read forms.line_of forms.returns (words line.now tokens.now)) }
 {
     match expect(line, tokens, b"void") {
-        Ok(rest) => finish(line, rest, does(Op::Ret, Args::new(alloc), Names::new(alloc))),
+        Ok(rest) => finish(
+            line,
+            rest,
+            does(Op::Ret, Args::new(alloc), Names::new(alloc)),
+        ),
         Err(Stop::NotALine) => return_value(alloc, line, tokens),
         Err(Stop::OutOfMemory) => Err(Stop::OutOfMemory),
     }
@@ -131,7 +151,11 @@ fn switch(alloc: Global, line: &[u8], tokens: &[Token]) -> Result<Line, Stop>
     let rest = expect(line, rest, b"[")?;
     let args = one_arg(alloc, value)?;
     let labels = one_label(alloc, block)?;
-    let op = Op::Switch { other: 0, cases: Lits::new(alloc), to: Numbers::new(alloc) };
+    let op = Op::Switch {
+        other: 0,
+        cases: Lits::new(alloc),
+        to: Numbers::new(alloc),
+    };
     finish(line, rest, does(op, args, labels))
 }
 
@@ -145,7 +169,11 @@ fn by_act(alloc: Global, act: Act, line: &[u8], tokens: &[Token]) -> Result<Line
         Act::Ret => returns(alloc, line, tokens),
         Act::Br => jump(alloc, line, tokens),
         Act::Switch => switch(alloc, line, tokens),
-        Act::Unreachable => finish(line, tokens, does(Op::Unreachable, Args::new(alloc), Names::new(alloc))),
+        Act::Unreachable => finish(
+            line,
+            tokens,
+            does(Op::Unreachable, Args::new(alloc), Names::new(alloc)),
+        ),
     }
 }
 

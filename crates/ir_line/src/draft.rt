@@ -21,7 +21,10 @@ pub type Body = Seq<Numbered>;
 #[derive(Debug, Drop)]
 pub enum DraftItem {
     /// A kept line.
-    Kept { line: u32, kept: Kept },
+    Kept {
+        line: u32,
+        kept: Kept,
+    },
     /// A function outside the profile, from its header's line on.
     Opaque {
         line: u32,
@@ -29,7 +32,11 @@ pub enum DraftItem {
         text: Bytes,
     },
     /// A function of the profile, from its header's line on.
-    Func { line: u32, head: Head, body: Body },
+    Func {
+        line: u32,
+        head: Head,
+        body: Body,
+    },
 }
 
 /// The items of a module in order.

@@ -92,15 +92,27 @@ fn flags_len(set: FlagSet, line: &[u8], tokens: &[Token]) -> usize
 
 /// The flags of the set at the front, and what is left.
 #[tactic(auto, unfolding(crate::specs::Reading::flags_at))]
-pub(crate) fn flags<'a>(set: FlagSet, line: &'a [u8], tokens: &'a [Token]) -> Result<(&'a [Token], &'a [Token]), Stop>
+pub(crate) fn flags<'a>(
+    set: FlagSet,
+    line: &'a [u8],
+    tokens: &'a [Token],
+) -> Result<(&'a [Token], &'a [Token]), Stop>
     ensures { Gives (λ x. (words line.now x.0.now, words line.now x.1.now)) result (reading.flags_at set (words line.now tokens.now)) }
 {
     let (found, rest) = split(line, tokens, flags_len(set, line, tokens));
-    if is_distinct(line, found) { Ok((found, rest)) } else { Err(Stop::NotALine) }
+    if is_distinct(line, found) {
+        Ok((found, rest))
+    } else {
+        Err(Stop::NotALine)
+    }
 }
 
 /// So many tokens at the front, and the rest.
-pub(crate) fn split<'a>(line: &'a [u8], tokens: &'a [Token], count: usize) -> (&'a [Token], &'a [Token])
+pub(crate) fn split<'a>(
+    line: &'a [u8],
+    tokens: &'a [Token],
+    count: usize,
+) -> (&'a [Token], &'a [Token])
     requires { count ≤ length tokens.now }
     ensures { (words line.now result.0.now, words line.now result.1.now) ≡ reading.split count (words line.now tokens.now) }
 {

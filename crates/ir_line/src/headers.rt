@@ -61,7 +61,10 @@ pub(crate) fn span(alloc: Global, line: &[u8], tokens: &[Token]) -> Result<Bytes
     match tokens {
         [] => Ok(Bytes::new(alloc)),
         [token, rest @ ..] => {
-            let whole = Token { from: token.from, to: last_to(token.to, rest) };
+            let whole = Token {
+                from: token.from,
+                to: last_to(token.to, rest),
+            };
             Ok(copied(alloc, text(line, whole))?)
         }
     }
@@ -87,7 +90,10 @@ fn is_attribute(word: &[u8]) -> bool
 {
     match word {
         [] => false,
-        [first, ..] => first.is_ascii_alphabetic() || is_digits(word) || *first == b'"' || *first == b'=',
+        [first, ..] => first.is_ascii_alphabetic()
+            || is_digits(word)
+            || *first == b'"'
+            || *first == b'=',
     }
 }
 
@@ -139,8 +145,13 @@ fn stands(line: &[u8], tokens: &[Token], wanted: &[u8]) -> bool
 fn is_banned(line: &[u8], tokens: &[Token]) -> bool
     ensures { result ≡ headers.is_banned (words line.now tokens.now) }
 {
-    stands(line, tokens, b"byval") || stands(line, tokens, b"sret") || stands(line, tokens, b"inalloca") || stands(line, tokens, b"preallocated")
-        || stands(line, tokens, b"inreg") || stands(line, tokens, b"nest") || stands(line, tokens, b"addrspace")
+    stands(line, tokens, b"byval")
+        || stands(line, tokens, b"sret")
+        || stands(line, tokens, b"inalloca")
+        || stands(line, tokens, b"preallocated")
+        || stands(line, tokens, b"inreg")
+        || stands(line, tokens, b"nest")
+        || stands(line, tokens, b"addrspace")
 }
 
 /// How many words a type has.
@@ -175,15 +186,34 @@ fn behind_name<'a>(name: &Option<Bytes>, tokens: &'a [Token]) -> &'a [Token]
 }
 
 /// A parameter of its parts.
-fn param(alloc: Global, line: &[u8], at: u32, ty: Ty, attrs: &[Token], name: Option<Bytes>) -> Result<Param, Stop>
+fn param(
+    alloc: Global,
+    line: &[u8],
+    at: u32,
+    ty: Ty,
+    attrs: &[Token],
+    name: Option<Bytes>,
+) -> Result<Param, Stop>
     ensures { Gives (λ x. x) result (Some (headers.param line.now at ty attrs.now name)) }
 {
-    Ok(Param { id: Id { region: 0, k: at }, name, ty, attrs: span(alloc, line, attrs)?, noalias: stands(line, attrs, b"noalias") })
+    Ok(Param {
+        id: Id { region: 0, k: at },
+        name,
+        ty,
+        attrs: span(alloc, line, attrs)?,
+        noalias: stands(line, attrs, b"noalias"),
+    })
 }
 
 /// A parameter behind its type.
 #[tactic(auto, unfolding(crate::specs::Headers::attributed))]
-fn attributed<'a>(alloc: Global, line: &'a [u8], at: u32, ty: Ty, tokens: &'a [Token]) -> Result<(Param, &'a [Token]), Stop>
+fn attributed<'a>(
+    alloc: Global,
+    line: &'a [u8],
+    at: u32,
+    ty: Ty,
+    tokens: &'a [Token],
+) -> Result<(Param, &'a [Token]), Stop>
     ensures { Gives (λ x. (x.0, x.1.now)) result (headers.attributed line.now at ty tokens.now) }
 {
     let (attrs, rest) = tokens.split_at(attrs_len(line, tokens));
@@ -197,7 +227,12 @@ fn attributed<'a>(alloc: Global, line: &'a [u8], at: u32, ty: Ty, tokens: &'a [T
 
 /// A parameter.
 #[tactic(auto, unfolding(crate::specs::Headers::param_at))]
-fn param_at<'a>(alloc: Global, line: &'a [u8], at: u32, tokens: &'a [Token]) -> Result<(Param, &'a [Token]), Stop>
+fn param_at<'a>(
+    alloc: Global,
+    line: &'a [u8],
+    at: u32,
+    tokens: &'a [Token],
+) -> Result<(Param, &'a [Token]), Stop>
     ensures { Gives (λ x. (x.0, x.1.now)) result (headers.param_at line.now at tokens.now) }
 {
     let (ty, _) = ty(line, tokens)?;
@@ -205,14 +240,26 @@ fn param_at<'a>(alloc: Global, line: &'a [u8], at: u32, tokens: &'a [Token]) -> 
 }
 
 /// The parameters, where they close here.
-fn closed<'a>(line: &'a [u8], params: Params, tokens: &'a [Token]) -> Result<(Params, &'a [Token]), Stop>
+fn closed<'a>(
+    line: &'a [u8],
+    params: Params,
+    tokens: &'a [Token],
+) -> Result<(Params, &'a [Token]), Stop>
     ensures { Gives (λ x. (x.0, x.1.now)) result (headers.closed line.now params tokens.now) }
 {
-    if is_first(line, tokens, b")") { Ok((params, skip(tokens, 1))) } else { Err(Stop::NotALine) }
+    if is_first(line, tokens, b")") {
+        Ok((params, skip(tokens, 1)))
+    } else {
+        Err(Stop::NotALine)
+    }
 }
 
 /// Parameters joined by commas.
-fn params_within<'a>(alloc: Global, line: &'a [u8], tokens: &'a [Token]) -> Result<(Params, &'a [Token]), Stop>
+fn params_within<'a>(
+    alloc: Global,
+    line: &'a [u8],
+    tokens: &'a [Token],
+) -> Result<(Params, &'a [Token]), Stop>
     ensures { Gives (λ x. (x.0, x.1.now)) result (headers.params_within tokens.now line.now 0 tokens.now) }
 {
     let mut found = Params::new(alloc);
@@ -234,7 +281,11 @@ fn params_within<'a>(alloc: Global, line: &'a [u8], tokens: &'a [Token]) -> Resu
 
 /// The parameters behind their `(`.
 #[tactic(auto, unfolding(crate::specs::Headers::params_at))]
-fn params_at<'a>(alloc: Global, line: &'a [u8], tokens: &'a [Token]) -> Result<(Params, &'a [Token]), Stop>
+fn params_at<'a>(
+    alloc: Global,
+    line: &'a [u8],
+    tokens: &'a [Token],
+) -> Result<(Params, &'a [Token]), Stop>
     ensures { Gives (λ x. (x.0, x.1.now)) result (headers.params_at line.now tokens.now) }
 {
     if is_first(line, tokens, b")") {
@@ -323,7 +374,13 @@ fn head_of(alloc: Global, line: &[u8], tokens: &[Token]) -> Result<Head, Stop>
     let (params, rest) = params_at(alloc, line, skip(skip(tokens, n), 2))?;
     let before = span(alloc, line, front(tokens, n.saturating_sub(ty_len(ret))))?;
     let after = span(alloc, line, rest)?;
-    Ok(Head { before, ret, name, params, after })
+    Ok(Head {
+        before,
+        ret,
+        name,
+        params,
+        after,
+    })
 }
 
 /// The header of a `define` line, where it is of the profile.
@@ -334,7 +391,11 @@ pub(crate) fn header(alloc: Global, line: &[u8], tokens: &[Token]) -> Result<Opt
     if !all_ascii(line, tokens) {
         return Ok(None);
     }
-    match head_of(alloc, line, front(skip(tokens, 1), tokens.len().saturating_sub(2))) {
+    match head_of(
+        alloc,
+        line,
+        front(skip(tokens, 1), tokens.len().saturating_sub(2)),
+    ) {
         Ok(head) => Ok(Some(head)),
         Err(Stop::NotALine) => Ok(None),
         Err(Stop::OutOfMemory) => Err(Stop::OutOfMemory),

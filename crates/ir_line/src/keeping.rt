@@ -74,7 +74,11 @@ fn keeps_mark(first: u8, rest: &[u8], equals: bool) -> bool
 fn keeps_word(word: &[u8]) -> bool
     ensures { result ≡ keeping.keeps_word word.now }
 {
-    is(word, b"source_filename") || is(word, b"target") || is(word, b"declare") || is(word, b"attributes") || is(word, b"module")
+    is(word, b"source_filename")
+        || is(word, b"target")
+        || is(word, b"declare")
+        || is(word, b"attributes")
+        || is(word, b"module")
 }
 
 /// Whether a line that begins with this word, and `=` or not, is kept for its mark.
@@ -137,7 +141,11 @@ fn defined(alloc: Global, line: &[u8], tokens: &[Token]) -> Result<Option<Bytes>
 }
 
 /// The first plain name of a symbol.
-pub(crate) fn first_symbol(alloc: Global, line: &[u8], tokens: &[Token]) -> Result<Option<Bytes>, Stop>
+pub(crate) fn first_symbol(
+    alloc: Global,
+    line: &[u8],
+    tokens: &[Token],
+) -> Result<Option<Bytes>, Stop>
     ensures { Gives (λ x. x) result (Some (keeping.first_symbol (words line.now tokens.now))) }
 {
     let mut rest = tokens;
@@ -165,7 +173,10 @@ fn declared(alloc: Global, line: &[u8], tokens: &[Token]) -> Result<Option<Bytes
 fn is_indirect(line: &[u8], tokens: &[Token]) -> bool
     ensures { result ≡ keeping.is_indirect (words line.now tokens.now) }
 {
-    has(line, tokens, b"alias") || has(line, tokens, b"ifunc") || has(line, tokens, b"extern_weak") || has(line, tokens, b"addrspace")
+    has(line, tokens, b"alias")
+        || has(line, tokens, b"ifunc")
+        || has(line, tokens, b"extern_weak")
+        || has(line, tokens, b"addrspace")
 }
 
 /// Whether a line is of the layout.

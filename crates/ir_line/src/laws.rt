@@ -11,11 +11,9 @@ ghost use Rattle.ir_line.specs.Outside as outside;
 /// No line inside a function spells two forms.
 pub fn one_body_form()
     ensures { (line : List ℕ) → (t : List Token) → (l m : Line) → body.Spells line t l → body.Spells line t m → l ≡ m }
-{
-}
+{}
 
 /// No line outside functions spells two forms.
 pub fn one_outside_form()
     ensures { (line : List ℕ) → (t : List Token) → (l m : Line) → outside.Spells line t l → outside.Spells line t m → l ≡ m }
-{
-}
+{}

@@ -38,3 +38,6 @@ pub use outside::module_line;
 pub use refusal::LineRefusal;
 pub use stmt::Stmt;
 pub use written::{Arg, Args, Written};
+
+#[cfg(test)]
+mod tests;

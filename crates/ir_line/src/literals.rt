@@ -9,11 +9,11 @@ ghost use Rattle.ir_line.specs.Words.{Gives, one};
 ghost use Rattle.ir_line.specs.Values as values;
 ghost use Rattle.ir_line.specs.Reading as reading;
 
+use crate::Written;
 use crate::refusal::Stop;
 use crate::types::width;
 use crate::values::lane_of;
 use crate::words::{behind, expect, is_first, next};
-use crate::Written;
 use ir_lex::Token;
 use ir_types::{Literal, Lits, Ty};
 use std::alloc::{AllocError, Global};
@@ -34,11 +34,20 @@ fn typed_lane<'a>(w: u8, line: &'a [u8], tokens: &'a [Token]) -> Result<(Lane, &
 {
     let (written, rest) = width(line, tokens)?;
     let (lane, rest) = lane(w, line, rest)?;
-    if written == w { Ok((lane, rest)) } else { Err(Stop::NotALine) }
+    if written == w {
+        Ok((lane, rest))
+    } else {
+        Err(Stop::NotALine)
+    }
 }
 
 /// The lanes of a list, with the `>` behind them.
-fn lanes_within<'a>(alloc: Global, w: u8, line: &'a [u8], tokens: &'a [Token]) -> Result<(Lits, &'a [Token]), Stop>
+fn lanes_within<'a>(
+    alloc: Global,
+    w: u8,
+    line: &'a [u8],
+    tokens: &'a [Token],
+) -> Result<(Lits, &'a [Token]), Stop>
     ensures { Gives (λ x. (x.0, words line.now x.1.now)) result (reading.lanes_within (words line.now tokens.now) w (words line.now tokens.now)) }
 {
     let mut found = Lits::new(alloc);
@@ -59,11 +68,21 @@ fn lanes_within<'a>(alloc: Global, w: u8, line: &'a [u8], tokens: &'a [Token]) -
 
 /// A list of `n` lanes behind its `<`.
 #[tactic(auto, unfolding(crate::specs::Reading::listed_at))]
-fn listed<'a>(alloc: Global, n: u8, w: u8, line: &'a [u8], tokens: &'a [Token]) -> Result<(Lits, &'a [Token]), Stop>
+fn listed<'a>(
+    alloc: Global,
+    n: u8,
+    w: u8,
+    line: &'a [u8],
+    tokens: &'a [Token],
+) -> Result<(Lits, &'a [Token]), Stop>
     ensures { Gives (λ x. (x.0, words line.now x.1.now)) result (reading.listed_at n w (words line.now tokens.now)) }
 {
     let (found, rest) = lanes_within(alloc, w, line, tokens)?;
-    if found.len() == n as usize { Ok((found, rest)) } else { Err(Stop::NotALine) }
+    if found.len() == n as usize {
+        Ok((found, rest))
+    } else {
+        Err(Stop::NotALine)
+    }
 }
 
 /// The same lane so many times.
@@ -79,7 +98,13 @@ fn repeated(alloc: Global, n: u8, lane: Lane) -> Result<Lits, AllocError>
 
 /// A lane that stands for all, behind its `splat`.
 #[tactic(auto, unfolding(crate::specs::Reading::splat_at))]
-fn splat<'a>(alloc: Global, n: u8, w: u8, line: &'a [u8], tokens: &'a [Token]) -> Result<(Lits, &'a [Token]), Stop>
+fn splat<'a>(
+    alloc: Global,
+    n: u8,
+    w: u8,
+    line: &'a [u8],
+    tokens: &'a [Token],
+) -> Result<(Lits, &'a [Token]), Stop>
     ensures { Gives (λ x. (x.0, words line.now x.1.now)) result (reading.splat_at n w (words line.now tokens.now)) }
 {
     let rest = expect(line, tokens, b"(")?;
@@ -90,7 +115,13 @@ fn splat<'a>(alloc: Global, n: u8, w: u8, line: &'a [u8], tokens: &'a [Token]) -
 
 /// The lanes of a vector.
 #[tactic(auto, unfolding(crate::specs::Reading::row_lanes))]
-fn row_lanes<'a>(alloc: Global, n: u8, w: u8, line: &'a [u8], tokens: &'a [Token]) -> Result<(Lits, &'a [Token]), Stop>
+fn row_lanes<'a>(
+    alloc: Global,
+    n: u8,
+    w: u8,
+    line: &'a [u8],
+    tokens: &'a [Token],
+) -> Result<(Lits, &'a [Token]), Stop>
     ensures { Gives (λ x. (x.0, words line.now x.1.now)) result (reading.row_lanes n w (words line.now tokens.now)) }
 {
     if is_first(line, tokens, b"poison") {
@@ -117,7 +148,12 @@ fn single(alloc: Global, lane: Lane) -> Result<Lits, AllocError>
 
 /// The lanes of an integer.
 #[tactic(auto, unfolding(crate::specs::Reading::lanes_at))]
-fn int_lanes<'a>(alloc: Global, w: u8, line: &'a [u8], tokens: &'a [Token]) -> Result<(Lits, &'a [Token]), Stop>
+fn int_lanes<'a>(
+    alloc: Global,
+    w: u8,
+    line: &'a [u8],
+    tokens: &'a [Token],
+) -> Result<(Lits, &'a [Token]), Stop>
     ensures { Gives (λ x. (x.0, words line.now x.1.now)) result (reading.lanes_at (Int w) (words line.now tokens.now)) }
 {
     let (lane, rest) = lane(w, line, tokens)?;
@@ -126,7 +162,12 @@ fn int_lanes<'a>(alloc: Global, w: u8, line: &'a [u8], tokens: &'a [Token]) -> R
 
 /// The lanes of a literal of a type.
 #[tactic(auto, unfolding(crate::specs::Reading::lanes_at))]
-pub(crate) fn lanes<'a>(alloc: Global, ty: Ty, line: &'a [u8], tokens: &'a [Token]) -> Result<(Lits, &'a [Token]), Stop>
+pub(crate) fn lanes<'a>(
+    alloc: Global,
+    ty: Ty,
+    line: &'a [u8],
+    tokens: &'a [Token],
+) -> Result<(Lits, &'a [Token]), Stop>
     ensures { Gives (λ x. (x.0, words line.now x.1.now)) result (reading.lanes_at ty (words line.now tokens.now)) }
 {
     match ty {
@@ -142,7 +183,12 @@ pub(crate) fn lanes<'a>(alloc: Global, ty: Ty, line: &'a [u8], tokens: &'a [Toke
 
 /// A literal of a type.
 #[tactic(auto, unfolding(crate::specs::Reading::literal_at))]
-pub(crate) fn literal<'a>(alloc: Global, ty: Ty, line: &'a [u8], tokens: &'a [Token]) -> Result<(Written, &'a [Token]), Stop>
+pub(crate) fn literal<'a>(
+    alloc: Global,
+    ty: Ty,
+    line: &'a [u8],
+    tokens: &'a [Token],
+) -> Result<(Written, &'a [Token]), Stop>
     ensures { Gives (λ x. (x.0, words line.now x.1.now)) result (reading.literal_at ty (words line.now tokens.now)) }
 {
     let (lanes, rest) = lanes(alloc, ty, line, tokens)?;

@@ -21,7 +21,11 @@ use std::alloc::Global;
 use vx_num::Lane;
 
 /// A local.
-pub(crate) fn local<'a>(alloc: Global, line: &'a [u8], tokens: &'a [Token]) -> Result<(Bytes, &'a [Token]), Stop>
+pub(crate) fn local<'a>(
+    alloc: Global,
+    line: &'a [u8],
+    tokens: &'a [Token],
+) -> Result<(Bytes, &'a [Token]), Stop>
     ensures { Gives (λ x. (x.0, words line.now x.1.now)) result (one values.local_of (words line.now tokens.now)) }
 {
     let (word, rest) = next(line, tokens)?;
@@ -30,7 +34,12 @@ pub(crate) fn local<'a>(alloc: Global, line: &'a [u8], tokens: &'a [Token]) -> R
 
 /// A symbol, where a pointer is wanted.
 #[tactic(auto, unfolding(crate::specs::Reading::symbol_at))]
-fn symbol<'a>(alloc: Global, ty: Ty, line: &'a [u8], tokens: &'a [Token]) -> Result<(Bytes, &'a [Token]), Stop>
+fn symbol<'a>(
+    alloc: Global,
+    ty: Ty,
+    line: &'a [u8],
+    tokens: &'a [Token],
+) -> Result<(Bytes, &'a [Token]), Stop>
     ensures { Gives (λ x. (x.0, words line.now x.1.now)) result (reading.symbol_at ty (words line.now tokens.now)) }
 {
     if !is_pointer(ty) {
@@ -42,7 +51,12 @@ fn symbol<'a>(alloc: Global, ty: Ty, line: &'a [u8], tokens: &'a [Token]) -> Res
 
 /// A symbol or a literal of a type.
 #[tactic(auto, unfolding(crate::specs::Reading::unnamed_at))]
-fn unnamed<'a>(alloc: Global, ty: Ty, line: &'a [u8], tokens: &'a [Token]) -> Result<(Written, &'a [Token]), Stop>
+fn unnamed<'a>(
+    alloc: Global,
+    ty: Ty,
+    line: &'a [u8],
+    tokens: &'a [Token],
+) -> Result<(Written, &'a [Token]), Stop>
     ensures { Gives (λ x. (x.0, words line.now x.1.now)) result (reading.unnamed_at ty (words line.now tokens.now)) }
 {
     match symbol(alloc, ty, line, tokens) {
@@ -54,7 +68,12 @@ fn unnamed<'a>(alloc: Global, ty: Ty, line: &'a [u8], tokens: &'a [Token]) -> Re
 
 /// An operand of a type.
 #[tactic(auto, unfolding(crate::specs::Reading::operand_at))]
-pub(crate) fn operand<'a>(alloc: Global, ty: Ty, line: &'a [u8], tokens: &'a [Token]) -> Result<(Written, &'a [Token]), Stop>
+pub(crate) fn operand<'a>(
+    alloc: Global,
+    ty: Ty,
+    line: &'a [u8],
+    tokens: &'a [Token],
+) -> Result<(Written, &'a [Token]), Stop>
     ensures { Gives (λ x. (x.0, words line.now x.1.now)) result (reading.operand_at ty (words line.now tokens.now)) }
 {
     match local(alloc, line, tokens) {
@@ -66,7 +85,12 @@ pub(crate) fn operand<'a>(alloc: Global, ty: Ty, line: &'a [u8], tokens: &'a [To
 
 /// A comma and an operand.
 #[tactic(auto, unfolding(crate::specs::Reading::other_at))]
-pub(crate) fn other<'a>(alloc: Global, ty: Ty, line: &'a [u8], tokens: &'a [Token]) -> Result<(Written, &'a [Token]), Stop>
+pub(crate) fn other<'a>(
+    alloc: Global,
+    ty: Ty,
+    line: &'a [u8],
+    tokens: &'a [Token],
+) -> Result<(Written, &'a [Token]), Stop>
     ensures { Gives (λ x. (x.0, words line.now x.1.now)) result (reading.other_at ty (words line.now tokens.now)) }
 {
     let rest = expect(line, tokens, b",")?;
@@ -75,7 +99,12 @@ pub(crate) fn other<'a>(alloc: Global, ty: Ty, line: &'a [u8], tokens: &'a [Toke
 
 /// An operand behind its type, which is of a kind.
 #[tactic(auto, unfolding(crate::specs::Reading::typed_at))]
-pub(crate) fn typed<'a>(alloc: Global, wanted: Kind, line: &'a [u8], tokens: &'a [Token]) -> Result<(Arg, &'a [Token]), Stop>
+pub(crate) fn typed<'a>(
+    alloc: Global,
+    wanted: Kind,
+    line: &'a [u8],
+    tokens: &'a [Token],
+) -> Result<(Arg, &'a [Token]), Stop>
     ensures { Gives (λ x. (x.0, words line.now x.1.now)) result (reading.typed_at wanted (words line.now tokens.now)) }
 {
     let (ty, rest) = kind(wanted, line, tokens)?;
@@ -85,7 +114,12 @@ pub(crate) fn typed<'a>(alloc: Global, wanted: Kind, line: &'a [u8], tokens: &'a
 
 /// A comma and an operand behind its type.
 #[tactic(auto, unfolding(crate::specs::Reading::also_at))]
-pub(crate) fn also<'a>(alloc: Global, wanted: Kind, line: &'a [u8], tokens: &'a [Token]) -> Result<(Arg, &'a [Token]), Stop>
+pub(crate) fn also<'a>(
+    alloc: Global,
+    wanted: Kind,
+    line: &'a [u8],
+    tokens: &'a [Token],
+) -> Result<(Arg, &'a [Token]), Stop>
     ensures { Gives (λ x. (x.0, words line.now x.1.now)) result (reading.also_at wanted (words line.now tokens.now)) }
 {
     let rest = expect(line, tokens, b",")?;
@@ -104,7 +138,10 @@ fn given<'a>(line: &'a [u8], tokens: &'a [Token]) -> Result<(Option<u64>, &'a [T
 
 /// An align, where a comma follows.
 #[tactic(auto, unfolding(crate::specs::Reading::aligned_at))]
-pub(crate) fn aligned<'a>(line: &'a [u8], tokens: &'a [Token]) -> Result<(Option<u64>, &'a [Token]), Stop>
+pub(crate) fn aligned<'a>(
+    line: &'a [u8],
+    tokens: &'a [Token],
+) -> Result<(Option<u64>, &'a [Token]), Stop>
     ensures { Gives (λ x. (x.0, words line.now x.1.now)) result (reading.aligned_at (words line.now tokens.now)) }
 {
     if is_first(line, tokens, b",") {
@@ -144,7 +181,12 @@ fn masked_by(ty: Ty, row: Ty, entries: Lits) -> Result<(Ty, Lits), Stop>
 
 /// The mask of a shuffle of two vectors of a type, with the type of the result.
 #[tactic(auto, unfolding(crate::specs::Reading::mask_at))]
-pub(crate) fn mask<'a>(alloc: Global, ty: Ty, line: &'a [u8], tokens: &'a [Token]) -> Result<((Ty, Lits), &'a [Token]), Stop>
+pub(crate) fn mask<'a>(
+    alloc: Global,
+    ty: Ty,
+    line: &'a [u8],
+    tokens: &'a [Token],
+) -> Result<((Ty, Lits), &'a [Token]), Stop>
     ensures { Gives (λ x. (x.0, words line.now x.1.now)) result (reading.mask_at ty (words line.now tokens.now)) }
 {
     let rest = expect(line, tokens, b",")?;
@@ -155,7 +197,11 @@ pub(crate) fn mask<'a>(alloc: Global, ty: Ty, line: &'a [u8], tokens: &'a [Token
 
 /// A block.
 #[tactic(auto, unfolding(crate::specs::Reading::target_at))]
-pub(crate) fn target<'a>(alloc: Global, line: &'a [u8], tokens: &'a [Token]) -> Result<(Bytes, &'a [Token]), Stop>
+pub(crate) fn target<'a>(
+    alloc: Global,
+    line: &'a [u8],
+    tokens: &'a [Token],
+) -> Result<(Bytes, &'a [Token]), Stop>
     ensures { Gives (λ x. (x.0, words line.now x.1.now)) result (reading.target_at (words line.now tokens.now)) }
 {
     let rest = expect(line, tokens, b"label")?;
@@ -164,7 +210,11 @@ pub(crate) fn target<'a>(alloc: Global, line: &'a [u8], tokens: &'a [Token]) -> 
 
 /// A comma and a block.
 #[tactic(auto, unfolding(crate::specs::Reading::also_target_at))]
-pub(crate) fn also_target<'a>(alloc: Global, line: &'a [u8], tokens: &'a [Token]) -> Result<(Bytes, &'a [Token]), Stop>
+pub(crate) fn also_target<'a>(
+    alloc: Global,
+    line: &'a [u8],
+    tokens: &'a [Token],
+) -> Result<(Bytes, &'a [Token]), Stop>
     ensures { Gives (λ x. (x.0, words line.now x.1.now)) result (reading.also_target_at (words line.now tokens.now)) }
 {
     let rest = expect(line, tokens, b",")?;
@@ -173,18 +223,29 @@ pub(crate) fn also_target<'a>(alloc: Global, line: &'a [u8], tokens: &'a [Token]
 
 /// The name of a label, with its colon.
 #[tactic(auto, unfolding(crate::specs::Reading::labelled_at))]
-pub(crate) fn labelled<'a>(alloc: Global, line: &'a [u8], tokens: &'a [Token]) -> Result<(Bytes, &'a [Token]), Stop>
+pub(crate) fn labelled<'a>(
+    alloc: Global,
+    line: &'a [u8],
+    tokens: &'a [Token],
+) -> Result<(Bytes, &'a [Token]), Stop>
     ensures { Gives (λ x. (x.0, words line.now x.1.now)) result (reading.labelled_at (words line.now tokens.now)) }
 {
     match tokens {
-        [token, rest @ ..] if is_first(line, rest, b":") => Ok((label_of(alloc, text(line, *token))?, behind(line, rest))),
+        [token, rest @ ..] if is_first(line, rest, b":") => Ok((
+            label_of(alloc, text(line, *token))?,
+            behind(line, rest),
+        )),
         _ => Err(Stop::NotALine),
     }
 }
 
 /// The number of a case.
 #[tactic(auto, unfolding(crate::specs::Reading::case_at))]
-pub(crate) fn case_number<'a>(ty: Ty, line: &'a [u8], tokens: &'a [Token]) -> Result<(u64, &'a [Token]), Stop>
+pub(crate) fn case_number<'a>(
+    ty: Ty,
+    line: &'a [u8],
+    tokens: &'a [Token],
+) -> Result<(u64, &'a [Token]), Stop>
     ensures { Gives (λ x. (x.0, words line.now x.1.now)) result (reading.case_at ty (words line.now tokens.now)) }
 {
     let (word, rest) = next(line, tokens)?;

@@ -28,7 +28,14 @@ pub(crate) struct Incoming {
 
 /// One pair at this place.
 #[tactic(auto, unfolding(crate::specs::Reading::pair_at))]
-fn pair<'a>(alloc: Global, found: &mut Incoming, ty: Ty, at: u32, line: &'a [u8], tokens: &'a [Token]) -> Result<&'a [Token], Stop>
+fn pair<'a>(
+    alloc: Global,
+    found: &mut Incoming,
+    ty: Ty,
+    at: u32,
+    line: &'a [u8],
+    tokens: &'a [Token],
+) -> Result<&'a [Token], Stop>
     ensures { Gives (λ x. (found.new, words line.now x.now)) result (reading.behind_pairs found.old (reading.pair_at ty at (words line.now tokens.now))) }
 {
     let rest = expect(line, tokens, b"[")?;
@@ -44,7 +51,12 @@ fn pair<'a>(alloc: Global, found: &mut Incoming, ty: Ty, at: u32, line: &'a [u8]
 
 /// All pairs, joined by commas.
 #[tactic(auto, unfolding(crate::specs::Reading::pairs_at))]
-pub(crate) fn pairs<'a>(alloc: Global, ty: Ty, line: &'a [u8], tokens: &'a [Token]) -> Result<(Incoming, &'a [Token]), Stop>
+pub(crate) fn pairs<'a>(
+    alloc: Global,
+    ty: Ty,
+    line: &'a [u8],
+    tokens: &'a [Token],
+) -> Result<(Incoming, &'a [Token]), Stop>
     ensures { Gives (λ x. (x.0, words line.now x.1.now)) result (reading.pairs_at ty (words line.now tokens.now)) }
 {
     let mut found = Incoming {

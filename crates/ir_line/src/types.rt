@@ -80,11 +80,19 @@ pub(crate) fn ty<'a>(line: &'a [u8], tokens: &'a [Token]) -> Result<(Ty, &'a [To
 
 /// A type of a kind.
 #[tactic(auto, unfolding(crate::specs::Reading::kind_at))]
-pub(crate) fn kind<'a>(kind: Kind, line: &'a [u8], tokens: &'a [Token]) -> Result<(Ty, &'a [Token]), Stop>
+pub(crate) fn kind<'a>(
+    kind: Kind,
+    line: &'a [u8],
+    tokens: &'a [Token],
+) -> Result<(Ty, &'a [Token]), Stop>
     ensures { Gives (λ x. (x.0, words line.now x.1.now)) result (reading.kind_at kind (words line.now tokens.now)) }
 {
     let (ty, rest) = ty(line, tokens)?;
-    if fits(kind, ty) { Ok((ty, rest)) } else { Err(Stop::NotALine) }
+    if fits(kind, ty) {
+        Ok((ty, rest))
+    } else {
+        Err(Stop::NotALine)
+    }
 }
 
 /// The length of an array.
@@ -93,7 +101,11 @@ fn length_of(word: &[u8]) -> Result<u64, Stop>
     ensures { Gives (λ x. x) result (reading.length_of word.now) }
 {
     let n = number_of(word)?;
-    if n <= 1 << 32 { Ok(n) } else { Err(Stop::NotALine) }
+    if n <= 1 << 32 {
+        Ok(n)
+    } else {
+        Err(Stop::NotALine)
+    }
 }
 
 /// The bits of an array's element.
@@ -135,7 +147,11 @@ fn array<'a>(line: &'a [u8], tokens: &'a [Token]) -> Result<(Elem, &'a [Token]),
 
 /// One value of a kind, or an array.
 #[tactic(auto, unfolding(crate::specs::Reading::elem_at))]
-pub(crate) fn elem<'a>(one: Kind, line: &'a [u8], tokens: &'a [Token]) -> Result<(Elem, &'a [Token]), Stop>
+pub(crate) fn elem<'a>(
+    one: Kind,
+    line: &'a [u8],
+    tokens: &'a [Token],
+) -> Result<(Elem, &'a [Token]), Stop>
     ensures { Gives (λ x. (x.0, words line.now x.1.now)) result (reading.elem_at one (words line.now tokens.now)) }
 {
     if is_first(line, tokens, b"[") {

@@ -40,7 +40,13 @@ fn gives_one(alloc: Global, name: Bytes, ty: Ty, op: Op, a: Arg) -> Result<Line,
 {
     let mut args = Args::new(alloc);
     args.push(a)?;
-    Ok(Line::Stmt(Stmt { result: Some(name), ty, op, args, labels: Names::new(alloc) }))
+    Ok(Line::Stmt(Stmt {
+        result: Some(name),
+        ty,
+        op,
+        args,
+        labels: Names::new(alloc),
+    }))
 }
 
 /// An instruction with a result and two operands.
@@ -50,18 +56,38 @@ fn gives_two(alloc: Global, name: Bytes, ty: Ty, op: Op, a: Arg, b: Arg) -> Resu
     let mut args = Args::new(alloc);
     args.push(a)?;
     args.push(b)?;
-    Ok(Line::Stmt(Stmt { result: Some(name), ty, op, args, labels: Names::new(alloc) }))
+    Ok(Line::Stmt(Stmt {
+        result: Some(name),
+        ty,
+        op,
+        args,
+        labels: Names::new(alloc),
+    }))
 }
 
 /// An instruction with a result and three operands.
-fn gives_three(alloc: Global, name: Bytes, ty: Ty, op: Op, a: Arg, b: Arg, c: Arg) -> Result<Line, Stop>
+fn gives_three(
+    alloc: Global,
+    name: Bytes,
+    ty: Ty,
+    op: Op,
+    a: Arg,
+    b: Arg,
+    c: Arg,
+) -> Result<Line, Stop>
     ensures { Gives (λ x. x) result (Some (forms.gives name ty op (a ∷ b ∷ c ∷ []))) }
 {
     let mut args = Args::new(alloc);
     args.push(a)?;
     args.push(b)?;
     args.push(c)?;
-    Ok(Line::Stmt(Stmt { result: Some(name), ty, op, args, labels: Names::new(alloc) }))
+    Ok(Line::Stmt(Stmt {
+        result: Some(name),
+        ty,
+        op,
+        args,
+        labels: Names::new(alloc),
+    }))
 }
 
 /// The flags that a binary operation may have.
@@ -90,7 +116,13 @@ fn flags_of(line: &[u8], tokens: &[Token]) -> Flags
 
 /// A binary operation.
 #[tactic(auto, unfolding(crate::specs::Forms::binary))]
-fn binary(alloc: Global, name: Bytes, op: BinOp, line: &[u8], tokens: &[Token]) -> Result<Line, Stop>
+fn binary(
+    alloc: Global,
+    name: Bytes,
+    op: BinOp,
+    line: &[u8],
+    tokens: &[Token],
+) -> Result<Line, Stop>
     ensures { Gives (λ x. x) result (read forms.line_of (forms.binary name op) (words line.now tokens.now)) }
 {
     let (found, rest) = flags(bin_flags(op), line, tokens)?;
@@ -98,7 +130,14 @@ fn binary(alloc: Global, name: Bytes, op: BinOp, line: &[u8], tokens: &[Token]) 
     let (a, rest) = operand(alloc, ty, line, rest)?;
     let (b, rest) = other(alloc, ty, line, rest)?;
     let flags = flags_of(line, found);
-    let form = gives_two(alloc, name, ty, Op::Bin { op, flags }, Arg { ty, opd: a }, Arg { ty, opd: b })?;
+    let form = gives_two(
+        alloc,
+        name,
+        ty,
+        Op::Bin { op, flags },
+        Arg { ty, opd: a },
+        Arg { ty, opd: b },
+    )?;
     finish(line, rest, form)
 }
 
@@ -130,7 +169,14 @@ fn compare(alloc: Global, name: Bytes, line: &[u8], tokens: &[Token]) -> Result<
     let (ty, rest) = kind(Kind::Number, line, rest)?;
     let (a, rest) = operand(alloc, ty, line, rest)?;
     let (b, rest) = other(alloc, ty, line, rest)?;
-    let form = gives_two(alloc, name, truth_of(ty), Op::Icmp { pred }, Arg { ty, opd: a }, Arg { ty, opd: b })?;
+    let form = gives_two(
+        alloc,
+        name,
+        truth_of(ty),
+        Op::Icmp { pred },
+        Arg { ty, opd: a },
+        Arg { ty, opd: b },
+    )?;
     finish(line, rest, form)
 }
 
@@ -157,7 +203,13 @@ fn cast_kind(op: CastOp, ty: Ty) -> Kind
 
 /// A cast.
 #[tactic(auto, unfolding(crate::specs::Forms::convert))]
-fn convert(alloc: Global, name: Bytes, op: CastOp, line: &[u8], tokens: &[Token]) -> Result<Line, Stop>
+fn convert(
+    alloc: Global,
+    name: Bytes,
+    op: CastOp,
+    line: &[u8],
+    tokens: &[Token],
+) -> Result<Line, Stop>
     ensures { Gives (λ x. x) result (read forms.line_of (forms.convert name op) (words line.now tokens.now)) }
 {
     let (found, rest) = flags(cast_flags(op), line, tokens)?;
@@ -219,24 +271,55 @@ fn shuffle(alloc: Global, name: Bytes, line: &[u8], tokens: &[Token]) -> Result<
 
 /// The end of a `getelementptr`: into an array there may be another index.
 #[tactic(auto, unfolding(crate::specs::Forms::stepped))]
-fn stepped(alloc: Global, name: Bytes, found: &[Token], elem: Elem, pointer: Arg, index: Arg, line: &[u8], tokens: &[Token]) -> Result<Line, Stop>
+fn stepped(
+    alloc: Global,
+    name: Bytes,
+    found: &[Token],
+    elem: Elem,
+    pointer: Arg,
+    index: Arg,
+    line: &[u8],
+    tokens: &[Token],
+) -> Result<Line, Stop>
     ensures { Gives (λ x. x) result (read forms.line_of (forms.stepped name (words line.now found.now) elem pointer index) (words line.now tokens.now)) }
 {
     let inbounds = has(line, found, b"inbounds");
     match elem {
         Elem::One(_) => {
-            let form = gives_two(alloc, name, Ty::Ptr, Op::Gep { elem, inbounds }, pointer, index)?;
+            let form = gives_two(
+                alloc,
+                name,
+                Ty::Ptr,
+                Op::Gep { elem, inbounds },
+                pointer,
+                index,
+            )?;
             finish(line, tokens, form)
         }
-        Elem::Array { n, w } => into_array(alloc, name, inbounds, n, w, pointer, index, line, tokens),
+        Elem::Array { n, w } => into_array(
+            alloc, name, inbounds, n, w, pointer, index, line, tokens,
+        ),
     }
 }
 
 /// The end of a `getelementptr` into an array: another index, or none.
-fn into_array(alloc: Global, name: Bytes, inbounds: bool, n: u64, w: u8, pointer: Arg, index: Arg, line: &[u8], tokens: &[Token]) -> Result<Line, Stop>
+fn into_array(
+    alloc: Global,
+    name: Bytes,
+    inbounds: bool,
+    n: u64,
+    w: u8,
+    pointer: Arg,
+    index: Arg,
+    line: &[u8],
+    tokens: &[Token],
+) -> Result<Line, Stop>
     ensures { Gives (λ x. x) result (forms.into_array name inbounds n w pointer index (words line.now tokens.now)) }
 {
-    let op = Op::Gep { elem: Elem::Array { n, w }, inbounds };
+    let op = Op::Gep {
+        elem: Elem::Array { n, w },
+        inbounds,
+    };
     match also(alloc, Kind::Integer, line, tokens) {
         Ok((second, rest)) => {
             let form = gives_three(alloc, name, Ty::Ptr, op, pointer, index, second)?;
@@ -270,7 +353,9 @@ fn load(alloc: Global, name: Bytes, line: &[u8], tokens: &[Token]) -> Result<Lin
     let (ty, rest) = kind(Kind::Stored, line, tokens)?;
     let (pointer, rest) = also(alloc, Kind::Pointer, line, rest)?;
     let (align, rest) = aligned(line, rest)?;
-    let op = Op::Load { align: align.unwrap_or(1) };
+    let op = Op::Load {
+        align: align.unwrap_or(1),
+    };
     let form = gives_one(alloc, name, ty, op, pointer)?;
     finish(line, rest, form)
 }
@@ -282,7 +367,13 @@ fn allocate(alloc: Global, name: Bytes, line: &[u8], tokens: &[Token]) -> Result
 {
     let (elem, rest) = elem(Kind::Stored, line, tokens)?;
     let (align, rest) = aligned(line, rest)?;
-    let stmt = Stmt { result: Some(name), ty: Ty::Ptr, op: Op::Alloca { elem, align }, args: Args::new(alloc), labels: Names::new(alloc) };
+    let stmt = Stmt {
+        result: Some(name),
+        ty: Ty::Ptr,
+        op: Op::Alloca { elem, align },
+        args: Args::new(alloc),
+        labels: Names::new(alloc),
+    };
     finish(line, rest, Line::Stmt(stmt))
 }
 
@@ -293,14 +384,30 @@ fn phi(alloc: Global, name: Bytes, line: &[u8], tokens: &[Token]) -> Result<Line
 {
     let (ty, rest) = kind(Kind::Value, line, tokens)?;
     let (found, rest) = pairs(alloc, ty, line, rest)?;
-    let Incoming { args, labels, blocks } = found;
-    let stmt = Stmt { result: Some(name), ty, op: Op::Phi { blocks }, args, labels };
+    let Incoming {
+        args,
+        labels,
+        blocks,
+    } = found;
+    let stmt = Stmt {
+        result: Some(name),
+        ty,
+        op: Op::Phi { blocks },
+        args,
+        labels,
+    };
     finish(line, rest, Line::Stmt(stmt))
 }
 
 /// What stands behind the keyword of an operation with a result.
 #[tactic(auto, unfolding(crate::specs::Forms::by_code))]
-fn by_code(alloc: Global, name: Bytes, code: Opcode, line: &[u8], tokens: &[Token]) -> Result<Line, Stop>
+fn by_code(
+    alloc: Global,
+    name: Bytes,
+    code: Opcode,
+    line: &[u8],
+    tokens: &[Token],
+) -> Result<Line, Stop>
     ensures { Gives (λ x. x) result (read forms.line_of (forms.by_code name code) (words line.now tokens.now)) }
 {
     match code {
@@ -328,7 +435,12 @@ fn code<'a>(line: &'a [u8], tokens: &'a [Token]) -> Result<(Opcode, &'a [Token])
 
 /// What stands behind the name of a result.
 #[tactic(auto, unfolding(crate::specs::Forms::value_line))]
-pub(crate) fn value_line(alloc: Global, name: Bytes, line: &[u8], tokens: &[Token]) -> Result<Line, Stop>
+pub(crate) fn value_line(
+    alloc: Global,
+    name: Bytes,
+    line: &[u8],
+    tokens: &[Token],
+) -> Result<Line, Stop>
     ensures { Gives (λ x. x) result (read forms.line_of (forms.value_line name) (words line.now tokens.now)) }
 {
     let rest = expect(line, tokens, b"=")?;

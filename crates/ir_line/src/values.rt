@@ -79,7 +79,11 @@ fn one_more(n: u64, digit: u8) -> Option<u64>
         return None;
     }
     let more = u128::from(n) * 10 + u128::from(digit - b'0');
-    if more < 1 << 64 { Some(more as u64) } else { None }
+    if more < 1 << 64 {
+        Some(more as u64)
+    } else {
+        None
+    }
 }
 
 /// An align: a power of two from 1 to 2^32.
@@ -88,7 +92,11 @@ pub(crate) fn align_of(word: &[u8]) -> Result<u64, Stop>
     ensures { Gives (λ x. x) result (values.align_of word.now) }
 {
     let n = number_of(word)?;
-    if n.is_power_of_two() && n <= 1 << 32 { Ok(n) } else { Err(Stop::NotALine) }
+    if n.is_power_of_two() && n <= 1 << 32 {
+        Ok(n)
+    } else {
+        Err(Stop::NotALine)
+    }
 }
 
 /// A number, where it has `w` bits.
@@ -99,7 +107,11 @@ fn fitting(w: u8, n: u64) -> Result<u64, Stop>
     if w > 64 {
         return Err(Stop::NotALine);
     }
-    if u128::from(n) < 1u128 << w { Ok(n) } else { Err(Stop::NotALine) }
+    if u128::from(n) < 1u128 << w {
+        Ok(n)
+    } else {
+        Err(Stop::NotALine)
+    }
 }
 
 /// A number with a minus, in two's complement of `w` bits, where it is not below the least.
@@ -122,7 +134,11 @@ fn below(all: u128, n: u64) -> Result<u64, Stop>
     requires some { 0 < n }
     ensures { Gives (λ x. x) result (when (nat_le (2 * n) all) (all - n)) }
 {
-    if 2 * u128::from(n) <= all { Ok((all - u128::from(n)) as u64) } else { Err(Stop::NotALine) }
+    if 2 * u128::from(n) <= all {
+        Ok((all - u128::from(n)) as u64)
+    } else {
+        Err(Stop::NotALine)
+    }
 }
 
 /// A signed decimal of `w` bits.

@@ -29,7 +29,11 @@ pub(crate) fn next<'a>(line: &'a [u8], tokens: &'a [Token]) -> Result<(&'a [u8],
 }
 
 /// What is left behind the word.
-pub(crate) fn expect<'a>(line: &'a [u8], tokens: &'a [Token], word: &[u8]) -> Result<&'a [Token], Stop>
+pub(crate) fn expect<'a>(
+    line: &'a [u8],
+    tokens: &'a [Token],
+    word: &[u8],
+) -> Result<&'a [Token], Stop>
     ensures { Gives (λ x. words line.now x.now) result (front.expect word.now (words line.now tokens.now)) }
 {
     match tokens {
