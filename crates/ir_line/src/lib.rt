@@ -1,6 +1,10 @@
 //! The form of one line of the module text: its tokens read as a label, an instruction, a header or a kept line.
 //!
-//! The entry points are `body_line`, for a line inside a function, and `module_line`, for a line outside.
+//! The entry points are `body_line`, for a line inside a function, and `module_line`, for a line outside. Each answers with the
+//! one form that the line spells, or refuses where it spells none, or for want of memory. Names are as they are written.
+//!
+//! Inside, the rest of a line is its bytes and the tokens that are left; nothing is copied but what a form keeps. The time is
+//! linear in the line. Calls (`call`) are not among the forms yet.
 #![tactic(auto)]
 
 mod act_lines;

@@ -1,8 +1,11 @@
 //! Lines with and without forms, and what is read of some, written by hand.
 
+ghost use Rattle.std.specs.Prelude.{◌+◌, ◌<◌, ◌^◌, length};
+
 use super::*;
 use ir_lex::{LexRefusal, tokens};
-use ir_types::{Op, Ty};
+use ir_types::{Op, Params, Ty};
+use std::alloc::Global;
 use vx_num::BinOp;
 
 /// Lines inside functions that have a form.
@@ -187,56 +190,49 @@ const NO_HEADERS: [&[u8]; 9] = [
     b"define void @f(ptr \xc3 %p) {",
 ];
 
+/// Whether a line inside a function has a form; a refusal names the number 5.
+fn has_form(alloc: Global, line: &[u8]) -> Result<bool, LexRefusal>
+    requires { length line.now + 1 < 2 ^ 32 }
+{
+    let t = tokens(alloc, line, 1)?;
+    Ok(!matches!(
+        &body_line(alloc, line, &t, 5),
+        Err(LineRefusal::NotALine { line: 5 })
+    ))
+}
+
+/// What a line outside functions is: 0 for kept, 1 for a header outside the profile, 2 for none, 3 for others.
+fn kind_of(alloc: Global, line: &[u8]) -> Result<u8, LexRefusal>
+    requires { length line.now + 1 < 2 ^ 32 }
+{
+    let t = tokens(alloc, line, 1)?;
+    match &module_line(alloc, line, &t, 5) {
+        Ok(Line::Kept(_)) => Ok(0),
+        Ok(
+            Line::Define {
+                name: _,
+                head: None,
+            },
+        ) => Ok(1),
+        Err(LineRefusal::NotALine { line: 5 }) => Ok(2),
+        _ => Ok(3),
+    }
+}
+
 #[test]
 fn forms_are_read(rt: HostRuntime) -> Result<(), LexRefusal> {
     for line in FORMS {
         assert!(rt; line.len() < 1000);
-        let t = tokens(rt.alloc(), line, 1)?;
-        assert!(rt;
-            body_line(rt.alloc(), line, &t, 5).is_ok(),
-            "a form is refused"
-        );
-    }
-    for line in NO_FORMS {
-        assert!(rt; line.len() < 1000);
-        let t = tokens(rt.alloc(), line, 1)?;
-        match body_line(rt.alloc(), line, &t, 5) {
-            Err(LineRefusal::NotALine { line }) => assert_eq!(rt; line, 5),
-            _ => panic!(rt; "a form is read"),
-        }
+        assert!(rt; has_form(rt.alloc(), line)?, "a form is refused");
     }
     Ok(())
 }
 
 #[test]
-fn statements_are_read(rt: HostRuntime) -> Result<(), LexRefusal> {
-    let line = b"  %007 = add nsw nuw i8 255, -128, !dbg !1".as_slice();
-    let t = tokens(rt.alloc(), line, 1)?;
-    match body_line(rt.alloc(), line, &t, 1) {
-        Ok(Line::Stmt(stmt)) => {
-            assert!(rt; stmt.ty == Ty::Int(8));
-            assert!(rt; stmt.args.len() == 2 && stmt.labels.is_empty());
-            match stmt.op {
-                Op::Bin { op, flags } => assert!(rt;
-                    op == BinOp::Add && flags.nuw && flags.nsw && !flags.exact && !flags.disjoint
-                ),
-                _ => panic!(rt; "no addition"),
-            }
-            match stmt.result {
-                Some(name) => assert!(rt; name.as_slice() == b"7".as_slice()),
-                None => panic!(rt; "no result"),
-            }
-        }
-        _ => panic!(rt; "no statement"),
-    }
-    let line = b"%x = load i32, ptr %p".as_slice();
-    let t = tokens(rt.alloc(), line, 1)?;
-    match body_line(rt.alloc(), line, &t, 1) {
-        Ok(Line::Stmt(stmt)) => match stmt.op {
-            Op::Load { align } => assert_eq!(rt; align, 1),
-            _ => panic!(rt; "no load"),
-        },
-        _ => panic!(rt; "no statement"),
+fn other_lines_are_refused(rt: HostRuntime) -> Result<(), LexRefusal> {
+    for line in NO_FORMS {
+        assert!(rt; line.len() < 1000);
+        assert!(rt; !has_form(rt.alloc(), line)?, "a form is read");
     }
     Ok(())
 }
@@ -245,93 +241,106 @@ fn statements_are_read(rt: HostRuntime) -> Result<(), LexRefusal> {
 fn module_lines_are_read(rt: HostRuntime) -> Result<(), LexRefusal> {
     for line in KEPT {
         assert!(rt; line.len() < 1000);
-        let t = tokens(rt.alloc(), line, 1)?;
-        assert!(rt;
-            matches!(&module_line(rt.alloc(), line, &t, 5), Ok(Line::Kept(_))),
-            "a kept line is refused"
-        );
-    }
-    for line in NO_LINES {
-        assert!(rt; line.len() < 1000);
-        let t = tokens(rt.alloc(), line, 1)?;
-        assert!(rt;
-            matches!(
-                &module_line(rt.alloc(), line, &t, 5),
-                Err(LineRefusal::NotALine { line: 5 })
-            ),
-            "a line is read"
-        );
+        assert_eq!(rt; kind_of(rt.alloc(), line)?, 0, "a kept line is refused");
     }
     for line in NO_HEADERS {
         assert!(rt; line.len() < 1000);
-        let t = tokens(rt.alloc(), line, 1)?;
-        assert!(rt;
-            matches!(
-                &module_line(rt.alloc(), line, &t, 5),
-                Ok(Line::Define {
-                    name: _,
-                    head: None
-                })
-            ),
-            "a header is read"
-        );
+        assert_eq!(rt; kind_of(rt.alloc(), line)?, 1, "a header is read");
+    }
+    for line in NO_LINES {
+        assert!(rt; line.len() < 1000);
+        assert_eq!(rt; kind_of(rt.alloc(), line)?, 2, "a line is read");
     }
     Ok(())
 }
 
+/// Whether a statement is `%7 = add nuw nsw i8 A, B`.
+fn is_addition(stmt: Stmt) -> bool {
+    let Stmt {
+        result,
+        ty,
+        op,
+        args,
+        labels,
+    } = stmt;
+    let named = match result {
+        Some(name) => name.as_slice() == b"7".as_slice(),
+        None => false,
+    };
+    let adds = match op {
+        Op::Bin { op, flags } => op == BinOp::Add
+            && flags.nuw
+            && flags.nsw
+            && !flags.exact
+            && !flags.disjoint,
+        _ => false,
+    };
+    named && adds && ty == Ty::Int(8) && args.len() == 2 && labels.is_empty()
+}
+
 #[test]
-fn what_is_kept_is_read(rt: HostRuntime) -> Result<(), LexRefusal> {
+fn a_statement_is_read(rt: HostRuntime) -> Result<(), LexRefusal> {
+    let line = b"  %007 = add nsw nuw i8 255, -128, !dbg !1".as_slice();
+    let t = tokens(rt.alloc(), line, 1)?;
+    match body_line(rt.alloc(), line, &t, 1) {
+        Ok(Line::Stmt(stmt)) => assert!(rt; is_addition(stmt)),
+        _ => panic!(rt; "no statement"),
+    }
+    Ok(())
+}
+
+/// Whether a kept line is the layout `E-p:32:32`.
+fn is_odd_layout(kept: &Kept) -> bool {
+    kept.big_endian
+        && kept.other_pointers
+        && !kept.global
+        && kept.text.as_slice() == b"target datalayout = \"E-p:32:32\"".as_slice()
+}
+
+#[test]
+fn a_layout_is_read(rt: HostRuntime) -> Result<(), LexRefusal> {
     let line = b"target datalayout = \"E-p:32:32\"  ".as_slice();
     let t = tokens(rt.alloc(), line, 1)?;
     match module_line(rt.alloc(), line, &t, 1) {
-        Ok(Line::Kept(kept)) => {
-            assert!(rt; kept.big_endian && kept.other_pointers && !kept.global);
-            assert!(rt; kept.text.as_slice() == b"target datalayout = \"E-p:32:32\"".as_slice());
-        }
-        _ => panic!(rt; "not kept"),
-    }
-    let line = b"@g = addrspace(1) global i32 0".as_slice();
-    let t = tokens(rt.alloc(), line, 1)?;
-    match module_line(rt.alloc(), line, &t, 1) {
-        Ok(Line::Kept(kept)) => assert!(rt;
-            !kept.global && kept.symbol.is_some() && kept.declared.is_none()
-        ),
+        Ok(Line::Kept(kept)) => assert!(rt; is_odd_layout(&kept)),
         _ => panic!(rt; "not kept"),
     }
     Ok(())
 }
 
+/// Whether the texts of a header are those of the test below.
+fn has_texts(head: &Head) -> bool {
+    head.name.as_slice() == b"f".as_slice()
+        && head.before.as_slice() == b"dso_local".as_slice()
+        && head.after.as_slice() == b"local_unnamed_addr #0".as_slice()
+}
+
+/// Whether the parameters are.
+fn has_params(params: &Params) -> bool {
+    match params.as_slice() {
+        [first, second, third] => first.noalias
+            && first.attrs.as_slice() == b"noalias noundef range(i32 0, 5)".as_slice()
+            && second.name.is_none()
+            && second.id.k == 1
+            && !third.noalias
+            && third.name.is_some(),
+        _ => false,
+    }
+}
+
 #[test]
-fn headers_are_read(rt: HostRuntime) -> Result<(), LexRefusal> {
+fn a_header_is_read(rt: HostRuntime) -> Result<(), LexRefusal> {
     let line =
         b"define dso_local <4 x i32> @f(ptr noalias noundef range(i32 0, 5) %r, i32 \"a\"=\"b\", ptr captures(none, noalias) %2) local_unnamed_addr #0 {".as_slice();
     let t = tokens(rt.alloc(), line, 1)?;
     match module_line(rt.alloc(), line, &t, 1) {
-        Ok(
-            Line::Define {
-                name: Some(name),
-                head: Some(head),
-            },
-        ) => {
-            assert!(rt;
-                name.as_slice() == b"f".as_slice() && head.name.as_slice() == b"f".as_slice()
-            );
-            assert!(rt;
-                head.before.as_slice() == b"dso_local".as_slice()
-                    && head.after.as_slice() == b"local_unnamed_addr #0".as_slice()
-            );
-            assert!(rt; head.ret == Ty::Row { n: 4, w: 32 } && head.params.len() == 3);
-            let first = head.params.get(0).expect(&rt, "a parameter");
-            assert!(rt;
-                first.noalias
-                    && first.attrs.as_slice() == b"noalias noundef range(i32 0, 5)".as_slice()
-            );
-            let second = head.params.get(1).expect(&rt, "a parameter");
-            assert!(rt; second.name.is_none() && second.ty == Ty::Int(32) && second.id.k == 1);
-            let third = head.params.get(2).expect(&rt, "a parameter");
-            assert!(rt; !third.noalias && third.name.is_some());
-        }
-        _ => panic!(rt; "no header"),
+        Ok(Line::Define { name, head }) => match head {
+            Some(head) => assert!(rt;
+                name.is_some() && has_texts(&head) && has_params(&head.params)
+            ),
+            None => panic!(rt; "no header"),
+        },
+        _ => panic!(rt; "no function"),
     }
     Ok(())
 }
