@@ -316,7 +316,8 @@ pub(crate) fn push_call(
     ty: Ty,
     opds: &[Opd],
 ) -> Result<(), AllocError>
-    ensures { OnOk result (out.new.items ≡ out.old.items ++ instructions.call_text names.now globals.now tail.now pre.now callee.now attrs.now post.now ty opds.now) }
+    ensures { OnOk result (out.new.items ≡ out.old.items ++ instructions.call_text names.now globals.now
+        tail.now pre.now callee.now attrs.now post.now ty opds.now) }
 {
     push_tail(out, tail)?;
     push_callee(out, pre, ty, callee)?;

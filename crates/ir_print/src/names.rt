@@ -85,8 +85,12 @@ impl Numbering {
         ty: Ty,
         name: &Option<Bytes>,
     ) -> Result<(), AllocError>
-        ensures locals { OnOk result ((rest : List Named) → self.new.locals.items ++ names.locals_from self.new.next rest ≡ self.old.locals.items ++ names.locals_from self.old.next (names.Named.Value id ty name.now ∷ rest)) }
-        ensures labels { OnOk result ((rest : List Named) → self.new.labels.items ++ names.labels_from self.new.next rest ≡ self.old.labels.items ++ names.labels_from self.old.next (names.Named.Value id ty name.now ∷ rest)) }
+        ensures locals { OnOk result ((rest : List Named) →
+            self.new.locals.items ++ names.locals_from self.new.next rest
+            ≡ self.old.locals.items ++ names.locals_from self.old.next (names.Named.Value id ty name.now ∷ rest)) }
+        ensures labels { OnOk result ((rest : List Named) →
+            self.new.labels.items ++ names.labels_from self.new.next rest
+            ≡ self.old.labels.items ++ names.labels_from self.old.next (names.Named.Value id ty name.now ∷ rest)) }
     {
         let text = shown(alloc, self.next, name)?;
         let next = counted(self.next, name)?;
@@ -97,8 +101,12 @@ impl Numbering {
 
     /// Adds a block.
     fn add_label(&mut self, alloc: Global, name: &Option<Bytes>) -> Result<(), AllocError>
-        ensures locals { OnOk result ((rest : List Named) → self.new.locals.items ++ names.locals_from self.new.next rest ≡ self.old.locals.items ++ names.locals_from self.old.next (names.Named.Label name.now ∷ rest)) }
-        ensures labels { OnOk result ((rest : List Named) → self.new.labels.items ++ names.labels_from self.new.next rest ≡ self.old.labels.items ++ names.labels_from self.old.next (names.Named.Label name.now ∷ rest)) }
+        ensures locals { OnOk result ((rest : List Named) →
+            self.new.locals.items ++ names.locals_from self.new.next rest
+            ≡ self.old.locals.items ++ names.locals_from self.old.next (names.Named.Label name.now ∷ rest)) }
+        ensures labels { OnOk result ((rest : List Named) →
+            self.new.labels.items ++ names.labels_from self.new.next rest
+            ≡ self.old.labels.items ++ names.labels_from self.old.next (names.Named.Label name.now ∷ rest)) }
     {
         let text = shown(alloc, self.next, name)?;
         let next = counted(self.next, name)?;
@@ -109,8 +117,12 @@ impl Numbering {
 
     /// Adds parameters.
     fn add_params(&mut self, alloc: Global, params: &[Param]) -> Result<(), AllocError>
-        ensures locals { OnOk result ((rest : List Named) → self.new.locals.items ++ names.locals_from self.new.next rest ≡ self.old.locals.items ++ names.locals_from self.old.next (names.params_named params.now rest)) }
-        ensures labels { OnOk result ((rest : List Named) → self.new.labels.items ++ names.labels_from self.new.next rest ≡ self.old.labels.items ++ names.labels_from self.old.next (names.params_named params.now rest)) }
+        ensures locals { OnOk result ((rest : List Named) →
+            self.new.locals.items ++ names.locals_from self.new.next rest
+            ≡ self.old.locals.items ++ names.locals_from self.old.next (names.params_named params.now rest)) }
+        ensures labels { OnOk result ((rest : List Named) →
+            self.new.labels.items ++ names.labels_from self.new.next rest
+            ≡ self.old.labels.items ++ names.labels_from self.old.next (names.params_named params.now rest)) }
     {
         for param in params {
             self.add_value(alloc, param.id, param.ty, &param.name)?;
@@ -120,8 +132,12 @@ impl Numbering {
 
     /// Adds an instruction, which names something where it has a result.
     fn add_inst(&mut self, alloc: Global, inst: &Inst) -> Result<(), AllocError>
-        ensures locals { OnOk result ((rest : List Named) → self.new.locals.items ++ names.locals_from self.new.next rest ≡ self.old.locals.items ++ names.locals_from self.old.next (names.result_named (names.is_void inst.now.ty) (names.is_store inst.now.op) inst.now rest)) }
-        ensures labels { OnOk result ((rest : List Named) → self.new.labels.items ++ names.labels_from self.new.next rest ≡ self.old.labels.items ++ names.labels_from self.old.next (names.result_named (names.is_void inst.now.ty) (names.is_store inst.now.op) inst.now rest)) }
+        ensures locals { OnOk result ((rest : List Named) →
+            self.new.locals.items ++ names.locals_from self.new.next rest
+            ≡ self.old.locals.items ++ names.locals_from self.old.next (names.result_named (names.is_void inst.now.ty) (names.is_store inst.now.op) inst.now rest)) }
+        ensures labels { OnOk result ((rest : List Named) →
+            self.new.labels.items ++ names.labels_from self.new.next rest
+            ≡ self.old.labels.items ++ names.labels_from self.old.next (names.result_named (names.is_void inst.now.ty) (names.is_store inst.now.op) inst.now rest)) }
     {
         match (inst.ty, &inst.op) {
             (Ty::Void, _) => Ok(()),
@@ -132,8 +148,12 @@ impl Numbering {
 
     /// Adds the instructions of a block.
     fn add_insts(&mut self, alloc: Global, insts: &[Inst]) -> Result<(), AllocError>
-        ensures locals { OnOk result ((rest : List Named) → self.new.locals.items ++ names.locals_from self.new.next rest ≡ self.old.locals.items ++ names.locals_from self.old.next (names.insts_named insts.now rest)) }
-        ensures labels { OnOk result ((rest : List Named) → self.new.labels.items ++ names.labels_from self.new.next rest ≡ self.old.labels.items ++ names.labels_from self.old.next (names.insts_named insts.now rest)) }
+        ensures locals { OnOk result ((rest : List Named) →
+            self.new.locals.items ++ names.locals_from self.new.next rest
+            ≡ self.old.locals.items ++ names.locals_from self.old.next (names.insts_named insts.now rest)) }
+        ensures labels { OnOk result ((rest : List Named) →
+            self.new.labels.items ++ names.labels_from self.new.next rest
+            ≡ self.old.labels.items ++ names.labels_from self.old.next (names.insts_named insts.now rest)) }
     {
         for inst in insts {
             self.add_inst(alloc, inst)?;

@@ -164,8 +164,8 @@ fn reply<S: Source, O: Sink, E: Sink>(
 /// The program: words, standard input, standard output, standard error, and the exit status.
 ///
 /// The commands are `print` and `opt`. Status 0: the input is a module of the first forms, and `out` took its text, or that of the
-/// module that `opt` makes of it, which refines it. 1: it is none. 2: the words are neither command alone. 3: a read failed. 4: a write failed. 5: the input has more than 16,777,216 bytes. 6: want of
-/// memory. It always returns.
+/// module that `opt` makes of it, which refines it. 1: it is none. 2: the words are neither command alone. 3: a read failed. 4: a
+/// write failed. 5: the input has more than 16,777,216 bytes. 6: want of memory. It always returns.
 pub fn sandvec_alone<S: Source, O: Sink, E: Sink>(
     alloc: Global,
     words: &[String],
