@@ -102,44 +102,50 @@ fn second_block(alloc: Global) -> Result<Block, Fail> {
     ]?))
 }
 
-fn third_block(alloc: Global) -> Result<Block, Fail> {
+fn from_both(alloc: Global) -> Result<Inst, Fail> {
     let zero = literal(alloc, Ty::Int(32), [Some(0)].as_slice())?;
+    let mut opds = Vec::new(alloc);
+    opds.push(zero)?;
+    opds.push(Opd::Val(id(4)))?;
+    let blocks = numbers(alloc, [0u32, 1].as_slice())?;
+    inst(alloc, 6, Ty::Int(32), Op::Phi { blocks }, opds)
+}
+
+fn compared(alloc: Global) -> Result<Inst, Fail> {
     let four = literal(alloc, Ty::Int(32), [Some(4)].as_slice())?;
+    let mut opds = Vec::new(alloc);
+    opds.push(Opd::Val(id(6)))?;
+    opds.push(four)?;
+    inst(alloc, 7, Ty::Int(1), Op::Icmp { pred: Pred::Ult }, opds)
+}
+
+fn stored(alloc: Global) -> Result<Inst, Fail> {
     let row = literal(alloc, Ty::Row { n: 2, w: 32 }, [Some(1), None].as_slice())?;
-    let from = Op::Phi {
-        blocks: numbers(alloc, [0u32, 1].as_slice())?,
-    };
-    let store = Op::Store { align: 4 };
-    Ok(block(vec![in alloc;
-        inst(
-            alloc,
-            6,
-            Ty::Int(32),
-            from,
-            vec![in alloc; zero, Opd::Val(id(4))]?
-        )?,
-        inst(
-            alloc,
-            7,
-            Ty::Int(1),
-            Op::Icmp { pred: Pred::Ult },
-            vec![in alloc; Opd::Val(id(6)), four]?
-        )?,
-        inst(
-            alloc,
-            8,
-            Ty::Row { n: 2, w: 32 },
-            store,
-            vec![in alloc; row, Opd::Sym(0)]?
-        )?,
-        inst(
-            alloc,
-            9,
-            Ty::Void,
-            Op::CondBr { yes: 1, no: 2 },
-            vec![in alloc; Opd::Val(id(7))]?
-        )?,
-    ]?))
+    let mut opds = Vec::new(alloc);
+    opds.push(row)?;
+    opds.push(Opd::Sym(0))?;
+    inst(
+        alloc,
+        8,
+        Ty::Row { n: 2, w: 32 },
+        Op::Store { align: 4 },
+        opds,
+    )
+}
+
+fn branched(alloc: Global) -> Result<Inst, Fail> {
+    let mut opds = Vec::new(alloc);
+    opds.push(Opd::Val(id(7)))?;
+    inst(alloc, 9, Ty::Void, Op::CondBr { yes: 1, no: 2 }, opds)
+}
+
+fn third_block(alloc: Global) -> Result<Block, Fail> {
+    let mut insts = Vec::new(alloc);
+    insts.push(from_both(alloc)?)?;
+    insts.push(compared(alloc)?)?;
+    insts.push(stored(alloc)?)?;
+    insts.push(branched(alloc)?)?;
+    Ok(block(insts))
 }
 
 fn function(alloc: Global) -> Result<Func, Fail> {
