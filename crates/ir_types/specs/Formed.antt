@@ -1,9 +1,9 @@
 -- A formed module, and lists of stores that are lawful in one.
 --
 -- Headers and instructions are of the forms of the profile, with its types, literals and aligns; each function has a block; each
--- block has its phis first and exactly one terminator, its last instruction; each target and symbol that is named is there, and
--- each local operand is a parameter or an instruction of the same function; each id is defined once; and each use is available
--- along each walk to it. (Language Reference, "Functions", "phi Instruction", "Well-Formedness".)
+-- block has its phis first and exactly one terminator, its last instruction; each target, symbol and callee that is named is
+-- there, and each local operand is a parameter or an instruction of the same function; each id is defined once; and each use is
+-- available along each walk to it. (Language Reference, "Functions", "phi Instruction", "call Instruction", "Well-Formedness".)
 use Rattle.std.specs.Prelude.{◌≡◌, ℕ, ◌<◌, ◌≤◌, ◌⊎◌, Bool, true, false, not, ◌&&◌, ◌==◌, nat_lt, if◌then◌else◌, List, [], ◌∷◌, ◌++◌, length, map, slice_get, count_by}
 use Rattle.std.specs.List.{All, AllPairs, Contains}
 use Rattle.std.specs.declared.option.Option.{Option}
@@ -14,7 +14,7 @@ use Rattle.ir_types.specs.declared.ty.Ty.TheVariants.{Void, Ptr}
 use Rattle.ir_types.specs.declared.opd.Opd.{Opd}
 use Rattle.ir_types.specs.declared.opd.Opd.TheVariants.{Val, Lit, Sym}
 use Rattle.ir_types.specs.declared.op.Op.{Op}
-use Rattle.ir_types.specs.declared.op.Op.TheVariants.{Store, Alloca, Phi, Ret, Br, CondBr, Switch, Unreachable}
+use Rattle.ir_types.specs.declared.op.Op.TheVariants.{Store, Alloca, Phi, Ret, Br, CondBr, Switch, Unreachable, Call}
 use Rattle.ir_types.specs.declared.inst.Inst.{Inst}
 use Rattle.ir_types.specs.declared.func.Param.{Param}
 use Rattle.ir_types.specs.declared.func.Block.{Block}
@@ -106,12 +106,19 @@ IsIncoming func number (Phi blocks) opds =
     × ((i j : ℕ) (b : ℕ) → slice_get blocks i ≡ Some b → slice_get blocks j ≡ Some b → slice_get opds i ≡ slice_get opds j)
 IsIncoming func number _ opds = Unit {0}
 
--- an instruction of a block: its parts, types, targets and incoming blocks
+-- a call names a function of the module, gives what that returns, and takes what its parameters are
+abbrev pub IsCalling : Module → Op → Ty → List (Option Ty) → Type 0
+IsCalling m (Call tail pre callee attrs post) t tys =
+    (f : Func) × Contains m.items (FuncItem f) × (f.name ≡ callee) × (t ≡ f.ret) × (tys ≡ map (λ (p : Param). Some p.ty) f.params)
+IsCalling m _ t tys = Unit {0}
+
+-- an instruction of a block: its parts, types, targets, incoming blocks and callee
 pub record IsFormedInst (m : Module) (func : Func) (number position : ℕ) (inst : Inst) : Type 0 where
   pub operands : All IsOpd inst.opds
   pub typed : IsTyped func.ret inst.op inst.ty (map (opd_ty m func) inst.opds)
   pub targets : All (IsTarget func) (op_targets inst.op)
   pub incoming : IsIncoming func number inst.op inst.opds
+  pub calling : IsCalling m inst.op inst.ty (map (opd_ty m func) inst.opds)
   -- an alloca stands in the first block
   pub allocas : is_alloca inst.op ≡ true → number ≡ 0
 

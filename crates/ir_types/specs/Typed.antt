@@ -2,7 +2,7 @@
 --
 -- Widths are 1, 8, 16, 32 and 64 bits; a vector has 2, 4, 8 or 16 lanes and at most 512 bits. `IsTyped` has one row a form: the
 -- type that the instruction gives, the types of its operands in order, and what its own parts must be. (Language Reference,
--- "Type System" and "Instruction Reference".) A call is not of the profile.
+-- "Type System" and "Instruction Reference".) What a call gives and takes, its callee's header says; see `Formed`.
 use Rattle.std.specs.Prelude.{◌≡◌, refl, ℕ, ◌*◌, ◌^◌, ◌<◌, ◌≤◌, ◌⊎◌, Bool, true, false, not, ◌&&◌, ◌||◌, ◌==◌, nat_le, List, [], ◌∷◌, length}
 use Rattle.std.specs.List.{All, AllPairs}
 use Rattle.std.specs.declared.option.Option.{Option}
@@ -162,4 +162,4 @@ IsTyped ret (Switch other cases to) t tys =
     (w : ℕ) × (is_width w ≡ true) × (t ≡ Void) × (length cases ≡ length to) × All (IsCase w) cases × AllPairs (λ a b. a ≡ b → ⊥) cases
     × (tys ≡ Some (Int w) ∷ [])
 IsTyped ret Unreachable t tys = (t ≡ Void) × (tys ≡ [])
-IsTyped ret (Call tail pre callee attrs post) t tys = ⊥
+IsTyped ret (Call tail pre callee attrs post) t tys = length attrs ≡ length tys
