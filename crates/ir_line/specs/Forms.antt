@@ -1,4 +1,4 @@
--- The forms of the lines inside functions: for each form its free choices (`Form`), the line that it is (`line_of`), its parts in
+-- The forms of the lines inside functions, but the call: for each form its free choices (`Form`), the line that it is (`line_of`), its parts in
 -- order (`slots`), and the tree by which it is read.
 -- LLVM Language Reference, "Instruction Reference", has the forms one by one.
 use Rattle.std.specs.Prelude.{◌≡◌, ℕ, Bool, true, false, Option, Some, None, unwrap_or, List, [], ◌∷◌, codes}

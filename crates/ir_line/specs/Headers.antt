@@ -11,10 +11,9 @@ use Rattle.ir_types.specs.declared.ty.Ty.TheVariants.{Void, Int, Ptr, Row}
 use Rattle.ir_types.specs.declared.func.Param.{Param}
 use Rattle.ir_line.specs.declared.head.Head.{Head}
 use Rattle.ir_line.specs.Values.{local_of, symbol_of}
-use Rattle.ir_line.specs.Words.{Words, ◌>>=◌, one, is_first}
+use Rattle.ir_line.specs.Words.{Words, ◌>>=◌, one, is_first, is_ascii}
 use Rattle.ir_line.specs.Reading.{ty_at}
 use Rattle.ir_line.specs.Keeping.{is_digits, is_some, first_symbol}
-use Rattle.ir_line.specs.Body.{is_ascii}
 
 -- the bytes from the first to the last of these tokens
 abbrev pub last_to : ℕ → List Token → ℕ
