@@ -1,5 +1,5 @@
 -- What a line inside a function spells.
-use Rattle.std.specs.Prelude.{◌≡◌, ℕ, suc, zero, Bool, true, false, not, ◌&&◌, cond, Option, Some, None, List, [], ◌∷◌, codes, bytes_eq, nat_eq, take}
+use Rattle.std.specs.Prelude.{◌≡◌, ℕ, suc, Bool, true, false, ◌&&◌, cond, Option, Some, None, List, [], ◌∷◌, codes, bytes_eq, nat_eq, take}
 use Rattle.std.specs.List.{list_all}
 use Rattle.ir_lex.specs.declared.list.Token.{Token}
 use Rattle.ir_lex.specs.Words.{words}

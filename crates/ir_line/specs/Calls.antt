@@ -1,13 +1,12 @@
 -- Calls: what stands where in `%x = TAIL call PRE TYPE @f(ARGS) POST`, and what is kept of it.
 -- LLVM Language Reference, "'call' Instruction".
-use Rattle.std.specs.Prelude.{◌≡◌, refl, ℕ, suc, zero, ◌+◌, ◌-◌, Bool, true, false, not, ◌&&◌, ◌||◌, cond, Option, Some, None, List, [], ◌∷◌, ◌++◌, codes, bytes_eq, nat_eq, length, take, drop}
+use Rattle.std.specs.Prelude.{◌≡◌, refl, ℕ, suc, ◌+◌, ◌-◌, Bool, not, ◌&&◌, ◌||◌, cond, Option, Some, None, List, [], ◌∷◌, ◌++◌, codes, bytes_eq, nat_eq, length, take, drop}
 use Rattle.ir_lex.specs.Bytes.{begins_name, is_word_byte, is_digit, is_sigil, is_mark, is_blank}
 use Rattle.ir_lex.specs.Scan.{string_len, name_len, more_len, cut}
 use Rattle.ir_lex.specs.declared.list.Token.{Token}
 use Rattle.ir_lex.specs.Words.{word, words}
 use Rattle.ir_types.specs.declared.ty.Ty.{Ty}
-use Rattle.ir_types.specs.declared.ty.Ty.TheVariants.{Void, Int, Ptr, Row}
-use Rattle.ir_types.specs.declared.op.Op.{Op}
+use Rattle.ir_types.specs.declared.ty.Ty.TheVariants.{Void, Int}
 use Rattle.ir_types.specs.declared.op.Op.TheVariants as ops
 use Rattle.ir_line.specs.declared.written.Written.{Written}
 use Rattle.ir_line.specs.declared.written.Written.TheVariants.{Lit}

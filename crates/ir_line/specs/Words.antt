@@ -1,5 +1,5 @@
 -- The words of a line, and the small tools of reading them from the front.
-use Rattle.std.specs.Prelude.{◌≡◌, ℕ, ◌+◌, Bool, true, false, not, ◌&&◌, ◌||◌, cond, Option, Some, None, Result, Ok, Err, option_and_then, List, [], ◌∷◌, ◌++◌, bytes_eq, nat_lt, codes}
+use Rattle.std.specs.Prelude.{◌≡◌, ℕ, Bool, true, false, cond, Option, Some, None, Result, Ok, Err, option_and_then, List, [], ◌∷◌, bytes_eq, nat_lt}
 use Rattle.ir_line.specs.declared.refusal.Stop.{Stop}
 use Rattle.ir_line.specs.declared.refusal.Stop.TheVariants.{NotALine, OutOfMemory}
 
