@@ -9,41 +9,93 @@ use ir_types::{
 };
 use std::alloc::{AllocError, Global};
 
-/// An instruction, by the number of its value and those of its operands.
+/// An instruction, by the number of its value and what its text below names, in this order.
 #[derive(Clone, Copy)]
 enum Line {
     /// `%k = getelementptr i8, ptr %from, i64 bytes`
-    Step {
-        k: u32,
-        from: u32,
-        bytes: u64,
-    },
+    Step(u32, u32, u64),
     /// `store i32 number, ptr %to, align A`
-    Store {
-        k: u32,
-        number: u64,
-        to: u32,
-        align: u64,
-    },
+    Store(u32, u64, u32, u64),
     /// `store <2 x i32> <i32 low, i32 high>, ptr %to, align A`
-    Both {
-        k: u32,
-        low: u64,
-        high: u64,
-        to: u32,
-        align: u64,
-    },
+    Both(u32, [u64; 2], u32, u64),
     /// `%k = load i32, ptr %from, align 4`
-    Load {
-        k: u32,
-        from: u32,
-    },
+    Load(u32, u32),
 }
 
 use Line::{Both, Load, Step, Store};
 
+/// 2^63 - 2, the greatest even constant of 64 bits.
+const GREATEST: u64 = 9223372036854775806;
+/// -4 in 64 bits.
+const FOUR_BACK: u64 = 18446744073709551612;
+
+const Q4: Line = Step(2, 0, 4);
+
+const LOW: Line = Store(5, 7, 0, 4);
+
+const HIGH: Line = Store(6, 8, 2, 4);
+
+/// Instructions with a pair, and what they become.
+const PAIRED: [(&str, &[Line], &[Line]); 6] = [
+    ("neighbours", &[Q4, LOW, HIGH], &[Q4, Both(6, [7, 8], 0, 4)]),
+    (
+        "the lesser constant second, with another align",
+        &[Q4, Store(5, 7, 2, 4), Store(6, 8, 0, 1)],
+        &[Q4, Both(6, [8, 7], 0, 1)],
+    ),
+    (
+        "the lesser constant first, with a greater align",
+        &[Q4, Store(5, 7, 0, 8), HIGH],
+        &[Q4, Both(6, [7, 8], 0, 8)],
+    ),
+    (
+        "from 4 bytes before the parameter",
+        &[Step(2, 0, FOUR_BACK), Store(5, 7, 2, 4), Store(6, 8, 0, 4)],
+        &[Step(2, 0, FOUR_BACK), Both(6, [7, 8], 2, 4)],
+    ),
+    (
+        "a sum between, and a chain of steps",
+        &[LOW, Step(3, 0, 1), Step(2, 3, 3), HIGH],
+        &[Step(3, 0, 1), Step(2, 3, 3), Both(6, [7, 8], 0, 4)],
+    ),
+    (
+        "the first of two pairs",
+        &[Q4, LOW, HIGH, Store(7, 9, 0, 4)],
+        &[Q4, Both(6, [7, 8], 0, 4), Store(7, 9, 0, 4)],
+    ),
+];
+
+/// Instructions without one; whether `%p` is `noalias`.
+const KEPT: [(&str, bool, &[Line]); 7] = [
+    ("a load between", false, &[Q4, LOW, Load(3, 0), HIGH]),
+    (
+        "a vector store between",
+        false,
+        &[Q4, LOW, Both(7, [1, 2], 1, 4), HIGH],
+    ),
+    ("distance 8", false, &[Step(2, 0, 8), LOW, HIGH]),
+    (
+        "constants that overflow",
+        false,
+        &[Step(3, 0, GREATEST), Step(2, 3, 4), Store(5, 7, 3, 4), HIGH],
+    ),
+    ("another parameter", false, &[Step(2, 1, 4), LOW, HIGH]),
+    ("noalias", true, &[Q4, LOW, HIGH]),
+    ("nothing", false, &[]),
+];
+
 fn id(k: u32) -> Id {
     Id { region: 0, k }
+}
+
+fn value(k: u32) -> Opd {
+    Opd::Val(id(k))
+}
+
+fn name(alloc: Global) -> Result<Option<Bytes>, AllocError> {
+    let mut letters = Bytes::new(alloc);
+    letters.push(b'n')?;
+    Ok(Some(letters))
 }
 
 fn literal(alloc: Global, ty: Ty, numbers: &[u64]) -> Result<Opd, AllocError> {
@@ -54,92 +106,81 @@ fn literal(alloc: Global, ty: Ty, numbers: &[u64]) -> Result<Opd, AllocError> {
     Ok(Opd::Lit(Literal { ty, lanes }))
 }
 
-fn opds(alloc: Global, first: Opd, second: Opd) -> Result<Opds, AllocError> {
-    let mut both = Opds::new(alloc);
-    both.push(first)?;
-    both.push(second)?;
-    Ok(both)
+fn opds(alloc: Global, first: Opd, second: Option<Opd>) -> Result<Opds, AllocError> {
+    let mut all = Opds::new(alloc);
+    all.push(first)?;
+    if let Some(opd) = second {
+        all.push(opd)?;
+    }
+    Ok(all)
 }
 
-fn name(alloc: Global) -> Result<Option<Bytes>, AllocError> {
-    let mut letters = Bytes::new(alloc);
-    letters.push(b'n')?;
-    Ok(Some(letters))
-}
-
-fn stored(k: u32, ty: Ty, align: u64, opds: Opds) -> Inst {
-    Inst {
+/// A store of a literal.
+fn store(
+    alloc: Global,
+    k: u32,
+    ty: Ty,
+    numbers: &[u64],
+    to: u32,
+    align: u64,
+) -> Result<Inst, AllocError> {
+    Ok(Inst {
         id: id(k),
         name: None,
         ty,
         op: Op::Store { align },
-        opds,
-    }
+        opds: opds(alloc, literal(alloc, ty, numbers)?, Some(value(to)))?,
+    })
+}
+
+/// An instruction with a result, on a value and perhaps a literal.
+fn gives(
+    alloc: Global,
+    k: u32,
+    ty: Ty,
+    op: Op,
+    from: u32,
+    index: Option<Opd>,
+) -> Result<Inst, AllocError> {
+    Ok(Inst {
+        id: id(k),
+        name: name(alloc)?,
+        ty,
+        op,
+        opds: opds(alloc, value(from), index)?,
+    })
 }
 
 fn inst(alloc: Global, line: Line) -> Result<Inst, AllocError> {
-    let pair = Ty::Row { n: 2, w: 32 };
     match line {
-        Step { k, from, bytes } => Ok(Inst {
-            id: id(k),
-            name: name(alloc)?,
-            ty: Ty::Ptr,
-            op: Op::Gep {
+        Step(k, from, bytes) => {
+            let op = Op::Gep {
                 elem: Elem::One(Ty::Int(8)),
                 inbounds: false,
-            },
-            opds: opds(
-                alloc,
-                Opd::Val(id(from)),
-                literal(alloc, Ty::Int(64), &[bytes])?,
-            )?,
-        }),
-        Store {
-            k,
-            number,
-            to,
-            align,
-        } => {
-            let value = literal(alloc, Ty::Int(32), &[number])?;
-            Ok(stored(k, Ty::Int(32), align, opds(alloc, value, Opd::Val(id(to)))?))
+            };
+            let index = literal(alloc, Ty::Int(64), &[bytes])?;
+            gives(alloc, k, Ty::Ptr, op, from, Some(index))
         }
-        Both {
-            k,
-            low,
-            high,
-            to,
-            align,
-        } => {
-            let value = literal(alloc, pair, &[low, high])?;
-            Ok(stored(k, pair, align, opds(alloc, value, Opd::Val(id(to)))?))
-        }
-        Load { k, from } => {
-            let mut pointer = Opds::new(alloc);
-            pointer.push(Opd::Val(id(from)))?;
-            Ok(Inst {
-                id: id(k),
-                name: name(alloc)?,
-                ty: Ty::Int(32),
-                op: Op::Load { align: 4 },
-                opds: pointer,
-            })
-        }
+        Store(k, number, to, align) => store(alloc, k, Ty::Int(32), &[number], to, align),
+        Both(k, lanes, to, align) => store(alloc, k, Ty::Row { n: 2, w: 32 }, &lanes, to, align),
+        Load(k, from) => gives(alloc, k, Ty::Int(32), Op::Load { align: 4 }, from, None),
     }
 }
 
-fn insts(alloc: Global, lines: &[Line]) -> Result<Insts, AllocError> {
-    let mut body = Insts::new(alloc);
+/// The block of these instructions and a `ret`.
+fn block(alloc: Global, lines: &[Line]) -> Result<Block, AllocError> {
+    let mut insts = Insts::new(alloc);
     for line in lines {
-        body.push(inst(alloc, *line)?)?;
+        insts.push(inst(alloc, *line)?)?;
     }
-    body.push(Inst {
+    insts.push(Inst {
         id: id(99),
         name: None,
         ty: Ty::Void,
         op: Op::Ret,
         opds: Opds::new(alloc),
     })?;
-    Ok(body)
+    Ok(Block { name: None, insts })
 }
 
 fn param(alloc: Global, k: u32, noalias: bool) -> Result<Param, AllocError> {
@@ -157,10 +198,7 @@ fn module(alloc: Global, noalias: bool, lines: &[Line]) -> Result<Module, AllocE
     params.push(param(alloc, 0, noalias)?)?;
     params.push(param(alloc, 1, false)?)?;
     let mut blocks = Blocks::new(alloc);
-    blocks.push(Block {
-        name: None,
-        insts: insts(alloc, lines)?,
-    })?;
+    blocks.push(block(alloc, lines)?)?;
     let mut items = Items::new(alloc);
     items.push(Item::Func(Func {
         before: Bytes::new(alloc),
@@ -183,335 +221,18 @@ fn pairs_to(alloc: Global, noalias: bool, old: &[Line], new: &[Line]) -> Result<
     Ok(paired.equal(&module(alloc, noalias, new)?))
 }
 
-/// 2^63 - 2, the greatest even constant of 64 bits.
-const GREATEST: u64 = 9223372036854775806;
-/// -4 in 64 bits.
-const FOUR_BACK: u64 = 18446744073709551612;
-
-const Q4: Line = Step {
-    k: 2,
-    from: 0,
-    bytes: 4,
-};
-
-const LOW: Line = Store {
-    k: 5,
-    number: 7,
-    to: 0,
-    align: 4,
-};
-
-const HIGH: Line = Store {
-    k: 6,
-    number: 8,
-    to: 2,
-    align: 4,
-};
+#[test]
+fn pairs_are_joined(rt: HostRuntime) -> Result<(), AllocError> {
+    for (title, old, new) in PAIRED {
+        assert!(rt; pairs_to(rt.alloc(), false, old, new)?, "{title}");
+    }
+    Ok(())
+}
 
 #[test]
-fn table_of_pairs(rt: HostRuntime) {
-    let alloc = rt.alloc();
-    let cases: [(&str, bool, &[Line], &[Line]); 13] = [
-        (
-            "neighbours",
-            false,
-            &[Q4, LOW, HIGH],
-            &[
-                Q4,
-                Both {
-                    k: 6,
-                    low: 7,
-                    high: 8,
-                    to: 0,
-                    align: 4,
-                },
-            ],
-        ),
-        (
-            "the lesser constant second, with another align",
-            false,
-            &[
-                Q4,
-                Store {
-                    k: 5,
-                    number: 7,
-                    to: 2,
-                    align: 4,
-                },
-                Store {
-                    k: 6,
-                    number: 8,
-                    to: 0,
-                    align: 1,
-                },
-            ],
-            &[
-                Q4,
-                Both {
-                    k: 6,
-                    low: 8,
-                    high: 7,
-                    to: 0,
-                    align: 1,
-                },
-            ],
-        ),
-        (
-            "the lesser constant first, with a greater align",
-            false,
-            &[
-                Q4,
-                Store {
-                    k: 5,
-                    number: 7,
-                    to: 0,
-                    align: 8,
-                },
-                HIGH,
-            ],
-            &[
-                Q4,
-                Both {
-                    k: 6,
-                    low: 7,
-                    high: 8,
-                    to: 0,
-                    align: 8,
-                },
-            ],
-        ),
-        (
-            "from 4 bytes before the parameter",
-            false,
-            &[
-                Step {
-                    k: 2,
-                    from: 0,
-                    bytes: FOUR_BACK,
-                },
-                Store {
-                    k: 5,
-                    number: 7,
-                    to: 2,
-                    align: 4,
-                },
-                Store {
-                    k: 6,
-                    number: 8,
-                    to: 0,
-                    align: 4,
-                },
-            ],
-            &[
-                Step {
-                    k: 2,
-                    from: 0,
-                    bytes: FOUR_BACK,
-                },
-                Both {
-                    k: 6,
-                    low: 7,
-                    high: 8,
-                    to: 2,
-                    align: 4,
-                },
-            ],
-        ),
-        (
-            "a sum between, and a chain of steps",
-            false,
-            &[
-                LOW,
-                Step {
-                    k: 3,
-                    from: 0,
-                    bytes: 1,
-                },
-                Step {
-                    k: 2,
-                    from: 3,
-                    bytes: 3,
-                },
-                HIGH,
-            ],
-            &[
-                Step {
-                    k: 3,
-                    from: 0,
-                    bytes: 1,
-                },
-                Step {
-                    k: 2,
-                    from: 3,
-                    bytes: 3,
-                },
-                Both {
-                    k: 6,
-                    low: 7,
-                    high: 8,
-                    to: 0,
-                    align: 4,
-                },
-            ],
-        ),
-        (
-            "the first of two pairs",
-            false,
-            &[
-                Q4,
-                LOW,
-                HIGH,
-                Store {
-                    k: 7,
-                    number: 9,
-                    to: 0,
-                    align: 4,
-                },
-            ],
-            &[
-                Q4,
-                Both {
-                    k: 6,
-                    low: 7,
-                    high: 8,
-                    to: 0,
-                    align: 4,
-                },
-                Store {
-                    k: 7,
-                    number: 9,
-                    to: 0,
-                    align: 4,
-                },
-            ],
-        ),
-        (
-            "a load between",
-            false,
-            &[Q4, LOW, Load { k: 3, from: 0 }, HIGH],
-            &[Q4, LOW, Load { k: 3, from: 0 }, HIGH],
-        ),
-        (
-            "a vector store between",
-            false,
-            &[
-                Q4,
-                LOW,
-                Both {
-                    k: 7,
-                    low: 1,
-                    high: 2,
-                    to: 1,
-                    align: 4,
-                },
-                HIGH,
-            ],
-            &[
-                Q4,
-                LOW,
-                Both {
-                    k: 7,
-                    low: 1,
-                    high: 2,
-                    to: 1,
-                    align: 4,
-                },
-                HIGH,
-            ],
-        ),
-        (
-            "distance 8",
-            false,
-            &[
-                Step {
-                    k: 2,
-                    from: 0,
-                    bytes: 8,
-                },
-                LOW,
-                HIGH,
-            ],
-            &[
-                Step {
-                    k: 2,
-                    from: 0,
-                    bytes: 8,
-                },
-                LOW,
-                HIGH,
-            ],
-        ),
-        (
-            "constants that overflow",
-            false,
-            &[
-                Step {
-                    k: 3,
-                    from: 0,
-                    bytes: GREATEST,
-                },
-                Step {
-                    k: 2,
-                    from: 3,
-                    bytes: 4,
-                },
-                Store {
-                    k: 5,
-                    number: 7,
-                    to: 3,
-                    align: 4,
-                },
-                HIGH,
-            ],
-            &[
-                Step {
-                    k: 3,
-                    from: 0,
-                    bytes: GREATEST,
-                },
-                Step {
-                    k: 2,
-                    from: 3,
-                    bytes: 4,
-                },
-                Store {
-                    k: 5,
-                    number: 7,
-                    to: 3,
-                    align: 4,
-                },
-                HIGH,
-            ],
-        ),
-        (
-            "another parameter",
-            false,
-            &[
-                Step {
-                    k: 2,
-                    from: 1,
-                    bytes: 4,
-                },
-                LOW,
-                HIGH,
-            ],
-            &[
-                Step {
-                    k: 2,
-                    from: 1,
-                    bytes: 4,
-                },
-                LOW,
-                HIGH,
-            ],
-        ),
-        ("noalias", true, &[Q4, LOW, HIGH], &[Q4, LOW, HIGH]),
-        ("nothing", false, &[], &[]),
-    ];
-    for (title, noalias, old, new) in cases {
-        match pairs_to(alloc, noalias, old, new) {
-            Ok(same) => assert!(rt; same, "{title}"),
-            Err(_) => assert!(rt; false, "no memory at {title}"),
-        }
+fn others_are_kept(rt: HostRuntime) -> Result<(), AllocError> {
+    for (title, noalias, lines) in KEPT {
+        assert!(rt; pairs_to(rt.alloc(), noalias, lines, lines)?, "{title}");
     }
+    Ok(())
 }
