@@ -49,12 +49,7 @@ fn is_foreign(at: Position, op: &Op) -> bool
 
 /// Behind an instruction.
 #[tactic(auto, unfolding(crate::specs::Function::after_inst))]
-fn after_inst(
-    names: &Names,
-    line: u32,
-    at: Position,
-    stmt: &Stmt,
-) -> Result<Position, ReadRefusal>
+fn after_inst(names: &Names, line: u32, at: Position, stmt: &Stmt) -> Result<Position, ReadRefusal>
     ensures { Gives (λ after. after) result (function.after_inst names.now line at stmt.now) }
 {
     if is_foreign(at, &stmt.op) || any_barred(names, stmt.args.as_slice()) {

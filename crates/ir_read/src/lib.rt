@@ -26,8 +26,8 @@ mod size;
 mod survey;
 
 use ir_line::Draft;
-pub use refusal::{Limit, ReadRefusal};
 use reader::judge;
+pub use refusal::{Limit, ReadRefusal};
 use std::alloc::Global;
 use survey::survey;
 

@@ -102,7 +102,11 @@ fn lexical_faults_come_first(rt: HostRuntime) {
         lex(b"hello\n\n  \x01", 3, 3),
         lex(b"; a\x7f", 1, 4),
         lex(b"hello \"a", 1, 7),
-        lex(b"define void @a() {\n  call void @k()\n  ret void \x00\n", 3, 12),
+        lex(
+            b"define void @a() {\n  call void @k()\n  ret void \x00\n",
+            3,
+            12,
+        ),
         lex(b"a\r\r\n", 1, 2),
     ];
     rows_hold(&rt, rt.alloc(), &rows);
@@ -115,40 +119,106 @@ fn lines_outside_the_profile(rt: HostRuntime) {
         no_line(b"\n}\n", 2),
         no_line(b"  ret void\n", 1),
         no_line(b"define void @a() {\n  call void @k()\n  ret void\n}\n", 2),
-        no_line(b"define void @a() {\n  %x = call i8 @k()\n  ret void\n}\n", 2),
+        no_line(
+            b"define void @a() {\n  %x = call i8 @k()\n  ret void\n}\n",
+            2,
+        ),
         no_line(b"define void @a() {\n  fence seq_cst\n  ret void\n}\n", 2),
         no_line(b"define void @a() {\n  ret void\n}, !x\n", 3),
-        no_line(b"define void @a() {\ndefine void @b() {\n  ret void\n}\n", 2),
+        no_line(
+            b"define void @a() {\ndefine void @b() {\n  ret void\n}\n",
+            2,
+        ),
         // headers: without its brace, and outside the profile
         no_line(b"define void @a()\n{\n  ret void\n}\n", 1),
         no_line(b"define void @a(...) {\n  ret void\n}\n", 1),
         no_line(b"define void @a(ptr byval(i8) %p) {\n  ret void\n}\n", 1),
         // under other pointers, before and behind
-        no_line(b"target datalayout = \"p:32:32\"\ndefine void @a() {\n  ret void\n}\n", 2),
-        no_line(b"define void @a() {\n  ret void\n}\ntarget datalayout = \"p:32:32\"\n", 1),
+        no_line(
+            b"target datalayout = \"p:32:32\"\ndefine void @a() {\n  ret void\n}\n",
+            2,
+        ),
+        no_line(
+            b"define void @a() {\n  ret void\n}\ntarget datalayout = \"p:32:32\"\n",
+            1,
+        ),
         // an alloca outside the first block: labelled, unlabelled
-        no_line(b"define void @a() {\n  br label %b\nb:\n  %x = alloca i8\n  ret void\n}\n", 4),
-        no_line(b"define void @a() {\n  br label %b\n  %x = alloca i8\n  ret void\n}\n", 3),
+        no_line(
+            b"define void @a() {\n  br label %b\nb:\n  %x = alloca i8\n  ret void\n}\n",
+            4,
+        ),
+        no_line(
+            b"define void @a() {\n  br label %b\n  %x = alloca i8\n  ret void\n}\n",
+            3,
+        ),
         // an operand that names a function or a symbol that is no global, before and behind
-        no_line(b"define void @a() {\n  store i8 1, ptr @a\n  ret void\n}\n", 2),
-        no_line(b"declare void @k()\ndefine void @a() {\n  store i8 1, ptr @k\n  ret void\n}\n", 3),
-        no_line(b"define void @a() {\n  store i8 1, ptr @k\n  ret void\n}\ndeclare void @k()\n", 2),
-        no_line(b"define void @a() {\n  store i8 1, ptr @k\n  ret void\n}\ndefine void @k() {\n  ret void\n}\n", 2),
-        no_line(b"define void @a() {\n  store ptr @k, ptr @g\n  ret void\n}\n@k = alias i8, ptr @g\n", 2),
-        no_line(b"define void @a() {\n  %x = phi ptr [ @g, %b ], [ @k, %c ]\n  ret void\n}\n@k = ifunc i8, ptr @g\n", 2),
-        no_line(b"define void @a() {\n  store i8 1, ptr @g\n  ret void\n}\n@g = extern_weak global i8\n", 2),
-        no_line(b"define void @a() {\n  store i8 1, ptr @g\n  ret void\n}\n@g = addrspace(1) global i8 0\n", 2),
+        no_line(
+            b"define void @a() {\n  store i8 1, ptr @a\n  ret void\n}\n",
+            2,
+        ),
+        no_line(
+            b"declare void @k()\ndefine void @a() {\n  store i8 1, ptr @k\n  ret void\n}\n",
+            3,
+        ),
+        no_line(
+            b"define void @a() {\n  store i8 1, ptr @k\n  ret void\n}\ndeclare void @k()\n",
+            2,
+        ),
+        no_line(
+            b"define void @a() {\n  store i8 1, ptr @k\n  ret void\n}\ndefine void @k() {\n  ret void\n}\n",
+            2,
+        ),
+        no_line(
+            b"define void @a() {\n  store ptr @k, ptr @g\n  ret void\n}\n@k = alias i8, ptr @g\n",
+            2,
+        ),
+        no_line(
+            b"define void @a() {\n  %x = phi ptr [ @g, %b ], [ @k, %c ]\n  ret void\n}\n@k = ifunc i8, ptr @g\n",
+            2,
+        ),
+        no_line(
+            b"define void @a() {\n  store i8 1, ptr @g\n  ret void\n}\n@g = extern_weak global i8\n",
+            2,
+        ),
+        no_line(
+            b"define void @a() {\n  store i8 1, ptr @g\n  ret void\n}\n@g = addrspace(1) global i8 0\n",
+            2,
+        ),
         // both names of a header that has two
-        no_line(b"define void @a() {\n  store i8 1, ptr @p\n  ret void\n}\ndefine @p void @b() {\n  ret void\n}\n", 2),
-        no_line(b"define void @a() {\n  store i8 1, ptr @b\n  ret void\n}\ndefine @p void @b() {\n  ret void\n}\n", 2),
+        no_line(
+            b"define void @a() {\n  store i8 1, ptr @p\n  ret void\n}\ndefine @p void @b() {\n  ret void\n}\n",
+            2,
+        ),
+        no_line(
+            b"define void @a() {\n  store i8 1, ptr @b\n  ret void\n}\ndefine @p void @b() {\n  ret void\n}\n",
+            2,
+        ),
         // the names behind a line that is none count too
-        no_line(b"define void @a() {\n  store i8 1, ptr @k\n  ret void\n}\nhello\ndeclare void @k()\n", 2),
+        no_line(
+            b"define void @a() {\n  store i8 1, ptr @k\n  ret void\n}\nhello\ndeclare void @k()\n",
+            2,
+        ),
         // both outside the profile and misplaced
-        no_line(b"define void @a() {\n  br label %b\nb:\n  switch i8 1, label %b [\n  %x = alloca i8\n  ]\n}\n", 5),
-        no_line(b"define void @a() {\n  switch i8 1, label %b [\n  store i8 1, ptr @a\n  ]\n}\n", 3),
-        no_line(b"define void @a() {\n  %x = add i8 1, 2\n  %y = phi ptr [ @a, %b ]\n  ret void\n}\n", 3),
-        no_line(b"target datalayout = \"p:32:32\"\ndefine void @a(i8 %1) {\n  ret void\n}\n", 2),
-        no_line(b"define void @a() {\n  br label %b\n  %9 = alloca i8\n  ret void\n}\n", 3),
+        no_line(
+            b"define void @a() {\n  br label %b\nb:\n  switch i8 1, label %b [\n  %x = alloca i8\n  ]\n}\n",
+            5,
+        ),
+        no_line(
+            b"define void @a() {\n  switch i8 1, label %b [\n  store i8 1, ptr @a\n  ]\n}\n",
+            3,
+        ),
+        no_line(
+            b"define void @a() {\n  %x = add i8 1, 2\n  %y = phi ptr [ @a, %b ]\n  ret void\n}\n",
+            3,
+        ),
+        no_line(
+            b"target datalayout = \"p:32:32\"\ndefine void @a(i8 %1) {\n  ret void\n}\n",
+            2,
+        ),
+        no_line(
+            b"define void @a() {\n  br label %b\n  %9 = alloca i8\n  ret void\n}\n",
+            3,
+        ),
     ];
     rows_hold(&rt, rt.alloc(), &rows);
 }
@@ -162,32 +232,65 @@ fn misplaced_lines(rt: HostRuntime) {
         misplaced(b"define void @a() {\n  ret void\n\n", 4),
         misplaced(b"define void @a() {", 2),
         // a phi behind another instruction
-        misplaced(b"define void @a() {\n  %x = add i8 1, 2\n  %y = phi i8 [ 1, %b ]\n  ret void\n}\n", 3),
-        misplaced(b"define void @a() {\nb:\n  %y = phi i8 [ 1, %b ]\n  store i8 1, ptr @g\n  %z = phi i8 [ 1, %b ]\n  ret void\n}\n", 5),
+        misplaced(
+            b"define void @a() {\n  %x = add i8 1, 2\n  %y = phi i8 [ 1, %b ]\n  ret void\n}\n",
+            3,
+        ),
+        misplaced(
+            b"define void @a() {\nb:\n  %y = phi i8 [ 1, %b ]\n  store i8 1, ptr @g\n  %z = phi i8 [ 1, %b ]\n  ret void\n}\n",
+            5,
+        ),
         // a label where the block before has no terminator
         misplaced(b"define void @a() {\nb:\nc:\n  ret void\n}\n", 3),
-        misplaced(b"define void @a() {\n  %x = add i8 1, 2\nc:\n  ret void\n}\n", 3),
+        misplaced(
+            b"define void @a() {\n  %x = add i8 1, 2\nc:\n  ret void\n}\n",
+            3,
+        ),
         // a brace where the last block has none, and where there is no block
         misplaced(b"define void @a() {\n  %x = add i8 1, 2\n}\n", 3),
         misplaced(b"define void @a() {\nb:\n}\n", 3),
         misplaced(b"define void @a() {\n\n}\n", 3),
         // inside a switch: a brace, an instruction, a label
         misplaced(b"define void @a() {\n  switch i8 1, label %b [\n}\n", 3),
-        misplaced(b"define void @a() {\n  switch i8 1, label %b [\n  ret void\n  ]\n}\n", 3),
-        misplaced(b"define void @a() {\n  switch i8 1, label %b [\n  i8 1, label %b\nb:\n  ret void\n}\n", 4),
-        misplaced(b"define void @a() {\n  switch i8 1, label %b [\n  %x = alloca i8\n  ]\n}\n", 3),
+        misplaced(
+            b"define void @a() {\n  switch i8 1, label %b [\n  ret void\n  ]\n}\n",
+            3,
+        ),
+        misplaced(
+            b"define void @a() {\n  switch i8 1, label %b [\n  i8 1, label %b\nb:\n  ret void\n}\n",
+            4,
+        ),
+        misplaced(
+            b"define void @a() {\n  switch i8 1, label %b [\n  %x = alloca i8\n  ]\n}\n",
+            3,
+        ),
         // outside one: a case, its end
         misplaced(b"define void @a() {\n  i8 1, label %b\n  ret void\n}\n", 2),
-        misplaced(b"define void @a() {\n  switch i8 1, label %b [\n  ]\n  ]\n}\n", 4),
+        misplaced(
+            b"define void @a() {\n  switch i8 1, label %b [\n  ]\n  ]\n}\n",
+            4,
+        ),
         // numbers that are not the next: of parameters, results, blocks
         misplaced(b"define void @a(i8 %1) {\n  ret void\n}\n", 1),
         misplaced(b"\ndefine void @a(i8 %n, i8, i8 %0) {\n  ret void\n}\n", 2),
-        misplaced(b"define void @a() {\n  %0 = add i8 1, 2\n  ret void\n}\n", 2),
-        misplaced(b"define void @a() {\nb:\n  %1 = add i8 1, 2\n  ret void\n}\n", 3),
+        misplaced(
+            b"define void @a() {\n  %0 = add i8 1, 2\n  ret void\n}\n",
+            2,
+        ),
+        misplaced(
+            b"define void @a() {\nb:\n  %1 = add i8 1, 2\n  ret void\n}\n",
+            3,
+        ),
         misplaced(b"define void @a() {\n1:\n  ret void\n}\n", 2),
         misplaced(b"define void @a() {\n  ret void\n0:\n  ret void\n}\n", 3),
-        misplaced(b"define void @a() {\n  ret void\n  %1 = add i8 1, 2\n  ret void\n}\n", 3),
-        misplaced(b"define void @a() {\n  %18446744073709551617 = add i8 1, 2\n  ret void\n}\n", 2),
+        misplaced(
+            b"define void @a() {\n  ret void\n  %1 = add i8 1, 2\n  ret void\n}\n",
+            3,
+        ),
+        misplaced(
+            b"define void @a() {\n  %18446744073709551617 = add i8 1, 2\n  ret void\n}\n",
+            2,
+        ),
         // the first of two
         misplaced(b"define void @a() {\n\n}\nhello\n", 3),
         misplaced(b"define void @a() {\nb:\nc:\nd:\n  ret void\n}\n", 3),
@@ -257,7 +360,10 @@ fn misplaced_comes_before_limits(rt: HostRuntime) -> Result<(), Fail> {
     let mut text = module_of(rt.alloc(), 1, 4_097, 16)?;
     text.extend_from_slice(b"define void @f() {")?;
     let line = 4_097 * 17 + 5;
-    assert_eq!(&rt; refusal_of(rt.alloc(), text.as_slice()), Some(ReadRefusal::Misplaced { line }));
+    assert_eq!(&rt;
+        refusal_of(rt.alloc(), text.as_slice()),
+        Some(ReadRefusal::Misplaced { line })
+    );
     Ok(())
 }
 
@@ -276,10 +382,19 @@ fn has_lines(body: &Body) -> bool {
 
 #[test]
 fn items_and_lines_stand_in_order(rt: HostRuntime) {
-    let text = b"@g = global i8 0  \n\ndefine void @a() {\nb:\n\n  store i8 1, ptr @g\n  ret void\n}\n\ndeclare void @k()\n";
+    let text =
+        b"@g = global i8 0  \n\ndefine void @a() {\nb:\n\n  store i8 1, ptr @g\n  ret void\n}\n\ndeclare void @k()\n";
     match read(rt.alloc(), text.as_slice()) {
         Ok(draft) => match draft.items.as_slice() {
-            [DraftItem::Kept { line: 1, kept }, DraftItem::Func { line: 3, head, body }, DraftItem::Kept { line: 10, .. }] => {
+            [
+                DraftItem::Kept { line: 1, kept },
+                DraftItem::Func {
+                    line: 3,
+                    head,
+                    body,
+                },
+                DraftItem::Kept { line: 10, .. },
+            ] => {
                 assert!(&rt; kept.global && kept.text.as_slice() == b"@g = global i8 0".as_slice());
                 assert!(&rt; head.name.as_slice() == b"a".as_slice() && has_lines(body));
             }
