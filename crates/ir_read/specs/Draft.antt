@@ -4,7 +4,8 @@
 --    missing, the line after the last is misplaced;
 -- 3. a limit, in the order of instructions, values and blocks.
 --
--- Empty lines, which are those without a token, are dropped, also from the bodies of functions.
+-- Empty lines, which are those without a token, are dropped, also from the bodies of functions. `Examples` has small texts and what
+-- they are.
 use Rattle.std.specs.Prelude.{◌≡◌, ℕ, ◌+◌, Bool, true, false, cond, Option, None, Some, Result, Ok, Err, List, [], ◌∷◌, ◌++◌}
 use Rattle.ir_line.specs.declared.line.Line.{Line}
 use Rattle.ir_line.specs.declared.line.Line.TheVariants as line

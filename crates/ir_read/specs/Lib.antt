@@ -1,6 +1,7 @@
 -- What a text means as a draft, or why it is none.
 pub mod Answers
 pub mod Draft
+pub mod Examples
 pub mod Faults
 pub mod Forms
 pub mod Function
