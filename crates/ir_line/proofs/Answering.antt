@@ -1,5 +1,5 @@
 -- What an answer says where all that is read is spelled.
-use Rattle.std.proofs.Common.{◌≡◌, Option, Some, None, Result, Ok, Err, IfOk}
+use Rattle.std.proofs.Common.{◌≡◌, Option, Some, Result, Ok, Err, IfOk}
 use Rattle.ir_line.specs.declared.line.Line.{Line}
 use Rattle.ir_line.specs.declared.refusal.LineRefusal.{LineRefusal}
 use Rattle.ir_line.specs.Answers.{Answers}

@@ -1,11 +1,11 @@
 -- Flags: what is read is spelled so, and what is spelled so is read.
-use Rattle.std.proofs.Common.{◌≡◌, ℕ, suc, zero, Bool, true, false, cond, not, ◌&&◌, List, [], ◌∷◌, ◌++◌, Option, Some, None, length, refl, sym, ◌∙◌, ap, subst}
+use Rattle.std.proofs.Common.{◌≡◌, ℕ, suc, Bool, true, false, cond, List, [], ◌∷◌, ◌++◌, Some, refl, ap, subst}
 use Rattle.std.specs.List.{list_all}
 use Rattle.ir_line.specs.declared.flags.FlagSet.{FlagSet}
-use Rattle.ir_line.specs.Words.{Words, when}
+use Rattle.ir_line.specs.Words.{Words}
 use Rattle.ir_line.specs.Reading.{allows, is_distinct, flags_len, split, flags_at}
 use Rattle.ir_line.specs.Pieces.{SpellsFlags}
-use Rattle.ir_line.proofs.Steps.{nothing, clash, when_then, both_true}
+use Rattle.ir_line.proofs.Steps.{when_then, both_true}
 
 -- what stands in front of the words that are no flags
 record Front (set : FlagSet) (ts : Words) (x : Words × Words) : Type 0 where

@@ -1,5 +1,6 @@
 pub mod Answering
 pub mod BodyLines
+pub mod CallLines
 pub mod FlagWords
 pub mod Lists
 pub mod OutsideLines

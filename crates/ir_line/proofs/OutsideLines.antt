@@ -1,11 +1,10 @@
 -- Lines outside functions: what is read is spelled, what is spelled is read, and so no line spells two forms.
-use Rattle.std.proofs.Common.{◌≡◌, ℕ, Bool, true, false, cond, ◌&&◌, ◌||◌, List, [], ◌∷◌, Option, Some, None, refl, sym, ◌∙◌, ap, subst, codes, bytes_eq}
+use Rattle.std.proofs.Common.{◌≡◌, ℕ, Bool, true, false, ◌||◌, List, [], ◌∷◌, Some, refl, sym, ◌∙◌, subst, codes}
 use Rattle.ir_lex.specs.declared.list.Token.{Token}
-use Rattle.ir_lex.specs.Words.{word, words}
+use Rattle.ir_lex.specs.Words.{words}
 use Rattle.ir_line.specs.declared.line.Line.{Line}
 use Rattle.ir_line.specs.Words.{Words, is_first}
 use Rattle.ir_line.specs.Keeping.{is_kept, keeps_word, keeps_marked, keeps_mark}
-use Rattle.ir_line.specs.Headers.{ends_open}
 use Rattle.ir_line.specs.Outside.{Spells, NoWord, KeptLine, Defined, is_define, read_outside}
 use Rattle.ir_line.proofs.Steps.{nothing, clash, some_is, cond_then, both_true, bytes_is}
 

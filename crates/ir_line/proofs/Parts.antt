@@ -1,22 +1,18 @@
 -- Types, literals, operands: what is read is spelled so, and what is spelled so is read.
-use Rattle.std.proofs.Common.{◌≡◌, ℕ, suc, zero, ◌+◌, ◌*◌, ◌≤◌, ◌<◌, Bool, true, false, cond, not, ◌&&◌, List, [], ◌∷◌, ◌++◌, Option, Some, None, length, replicate, refl, sym, ◌∙◌, ap, subst, arith, nat_eq, codes, bytes_eq, eqb-true, eq-eqb}
-use Rattle.std.specs.List.{list_all}
+use Rattle.std.proofs.Common.{◌≡◌, ℕ, ◌≤◌, ◌<◌, Bool, true, false, List, [], ◌∷◌, Option, Some, None, length, replicate, refl, sym, ◌∙◌, ap, subst, arith, nat_eq, codes, bytes_eq, eqb-true, eq-eqb}
 use Rattle.ir_types.specs.declared.ty.Ty.{Ty}
 use Rattle.ir_types.specs.declared.ty.Ty.TheVariants.{Void, Int, Ptr, Row}
-use Rattle.ir_types.specs.declared.ty.Elem.{Elem}
-use Rattle.ir_types.specs.declared.ty.Elem.TheVariants.{One, Array}
 use Rattle.ir_line.specs.declared.kinds.Kind.{Kind}
-use Rattle.ir_line.specs.declared.flags.FlagSet.{FlagSet}
 use Rattle.ir_line.specs.declared.written.Written.{Written}
-use Rattle.ir_line.specs.declared.written.Written.TheVariants.{Local, Symbol, Lit}
+use Rattle.ir_line.specs.declared.written.Written.TheVariants.{Local, Symbol}
 use Rattle.ir_line.specs.declared.written.Arg.{Arg}
 use Rattle.ir_line.specs.Kinds.{fits, is_pointer}
-use Rattle.ir_line.specs.Values.{width_of, number_of, one_more, fitting, negative, decimal_of, bits_number, lane_of, local_of, symbol_of}
-use Rattle.ir_line.specs.Words.{Words, ◌>>=◌, when, one, expect, is_first, behind}
-use Rattle.ir_line.specs.Reading.{is_row, row_at, int_at, ty_at, kind_at, typed_lane, lanes_within, with_front, listed_at, splat_at, row_lanes, lanes_at, literal_at, choose, symbol_at, unnamed_at, operand_at, typed_at, allows, is_distinct, flags_len, split, flags_at}
+use Rattle.ir_line.specs.Values.{width_of, number_of, one_more, decimal_of, bits_number, lane_of, local_of, symbol_of}
+use Rattle.ir_line.specs.Words.{Words, one, expect, is_first, behind}
+use Rattle.ir_line.specs.Reading.{is_row, row_at, int_at, ty_at, kind_at, typed_lane, lanes_within, listed_at, splat_at, row_lanes, lanes_at, literal_at, symbol_at, unnamed_at, operand_at, typed_at}
 use Rattle.ir_line.specs.Pieces as pieces
 use Rattle.ir_line.specs.Pieces.{Says, SpellsFlags, SpellsTy, SpellsKind, SpellsLane, SpellsList, SpellsRow, SpellsLanes, SpellsOperand, SpellsTyped}
-use Rattle.ir_line.proofs.Steps.{nothing, clash, some_is, bind_then, when_then, cond_then, choose_then, both_true, bytes_is, expect_is, expects, first_is, one_says, says_one, apart}
+use Rattle.ir_line.proofs.Steps.{nothing, some_is, bind_then, when_then, cond_then, choose_then, expect_is, first_is, one_says, apart}
 
 -- types
 

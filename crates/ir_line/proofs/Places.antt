@@ -1,24 +1,21 @@
 -- Aligns, elements, masks, blocks, pairs, and so every part: what is read is spelled so, and what is spelled so is read.
-use Rattle.std.proofs.Common.{◌≡◌, ℕ, suc, zero, ◌+◌, ◌*◌, ◌≤◌, ◌<◌, Bool, true, false, cond, not, ◌&&◌, List, [], ◌∷◌, ◌++◌, Option, Some, None, length, refl, sym, ◌∙◌, ap, subst, arith, nat_eq, codes, bytes_eq, eqb-true, eq-eqb}
+use Rattle.std.proofs.Common.{◌≡◌, ℕ, ◌+◌, ◌*◌, ◌≤◌, ◌<◌, List, [], ◌∷◌, Option, Some, length, refl, sym, ◌∙◌, ap, subst, arith, codes, eqb-true}
 use Rattle.ir_types.specs.declared.ty.Ty.{Ty}
 use Rattle.ir_types.specs.declared.ty.Ty.TheVariants.{Void, Int, Ptr, Row}
 use Rattle.ir_types.specs.declared.ty.Elem.{Elem}
-use Rattle.ir_types.specs.declared.ty.Elem.TheVariants.{One, Array}
+use Rattle.ir_types.specs.declared.ty.Elem.TheVariants.{Array}
 use Rattle.ir_line.specs.declared.kinds.Kind.{Kind}
 use Rattle.ir_line.specs.declared.kinds.Kind.TheVariants as kind
 use Rattle.ir_line.specs.declared.written.Written.{Written}
 use Rattle.ir_line.specs.declared.pairs.Incoming.{Incoming}
-use Rattle.ir_line.specs.declared.opcode.Opcode.{Opcode}
-use Rattle.ir_line.specs.declared.opcode.Act.{Act}
-use Rattle.vx_num.specs.declared.operations.Pred.{Pred}
-use Rattle.ir_line.specs.Kinds.{fits, is_vector, bits_of, lanes_of}
-use Rattle.ir_line.specs.Values.{width_of, number_of, align_of, bits_number, local_of, label_of, opcode_word, opcodes, opcode_of, act_word, act_of, pred_word, pred_of}
-use Rattle.ir_line.specs.Words.{Words, ◌>>=◌, when, one, expect, is_first, behind}
-use Rattle.ir_line.specs.Reading.{is_row, are_entries, length_of, item_of, kind_at, ty_at, lanes_at, operand_at, given_at, aligned_at, array_at, elem_at, masked_by, mask_at, target_at, also_target_at, labelled_at, case_at, other_at, also_at, put, both, pair_at, behind_pairs, pairs_within, pairs_at}
+use Rattle.ir_line.specs.Kinds.{bits_of, lanes_of}
+use Rattle.ir_line.specs.Values.{width_of, align_of, local_of, label_of}
+use Rattle.ir_line.specs.Words.{Words, when, one, expect, is_first, behind}
+use Rattle.ir_line.specs.Reading.{is_row, are_entries, length_of, item_of, kind_at, lanes_at, operand_at, given_at, aligned_at, array_at, elem_at, masked_by, mask_at, target_at, also_target_at, labelled_at, other_at, also_at, put, pair_at, pairs_within, pairs_at}
 use Rattle.ir_line.specs.Pieces as pieces
 use Rattle.ir_line.specs.Pieces.{Says, Led, SpellsTy, SpellsKind, SpellsLanes, SpellsOperand, SpellsTyped, SpellsAligned, SpellsElem, SpellsMask, SpellsPair, SpellsPairs}
-use Rattle.ir_line.proofs.Steps.{nothing, clash, some_is, bind_then, when_then, cond_then, choose_then, both_true, bytes_is, expect_is, expects, first_is, one_says, says_one, apart}
-use Rattle.ir_line.proofs.Parts.{NoTy, ty_not, ty_taken, ty_takes, kind_taken, kind_takes, lanes_taken, lanes_takes, operand_taken, operand_takes, operand_shorter, typed_taken, typed_takes}
+use Rattle.ir_line.proofs.Steps.{nothing, clash, some_is, bind_then, when_then, cond_then, expect_is, first_is, one_says, says_one}
+use Rattle.ir_line.proofs.Parts.{NoTy, ty_not, kind_taken, kind_takes, lanes_taken, lanes_takes, operand_taken, operand_takes, operand_shorter, typed_taken, typed_takes}
 
 -- a part behind a word
 led : (v : List ℕ) (P : Words → Type 0) (ts rest : Words) → expect v ts ≡ Some rest → P rest → Led v P ts

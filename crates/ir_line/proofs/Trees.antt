@@ -1,5 +1,5 @@
 -- The trees of parts: what a tree reads is spelled by a form, and what a form spells is read as that form.
-use Rattle.std.proofs.Common.{◌≡◌, ℕ, Bool, true, false, cond, ◌⊎◌, inl, inr, List, [], ◌∷◌, ◌++◌, Option, Some, None, refl, sym, ◌∙◌, ap, subst, codes, bytes_eq}
+use Rattle.std.proofs.Common.{◌≡◌, ℕ, false, ◌⊎◌, inl, inr, List, [], ◌∷◌, Option, Some, None, refl, sym, ◌∙◌, ap, subst, codes}
 use Rattle.vx_num.specs.declared.operations.BinOp.TheVariants as bin
 use Rattle.vx_num.specs.declared.operations.CastOp.TheVariants as cast
 use Rattle.vx_num.specs.declared.operations.Pred.{Pred}
@@ -19,16 +19,16 @@ use Rattle.ir_line.specs.declared.written.Arg.{Arg}
 use Rattle.ir_lex.specs.Bytes.{begins_name}
 use Rattle.ir_line.specs.Kinds.{bits_of}
 use Rattle.ir_line.specs.Values.{width_of, number_of, one_more, decimal_of, bits_number, local_of, label_of, opcode_word, opcodes, opcode_of, act_word, acts, act_of, pred_word, preds, pred_of}
-use Rattle.ir_line.specs.Words.{Words, ◌>>=◌, when, one, expect, is_first, behind}
-use Rattle.ir_line.specs.Reading.{choose, labelled_at, also_at, target_at, case_at}
+use Rattle.ir_line.specs.Words.{Words, one, expect, is_first}
+use Rattle.ir_line.specs.Reading.{labelled_at, also_at, target_at, case_at}
 use Rattle.ir_line.specs.Pieces as pieces
 use Rattle.ir_line.specs.Pieces.{Piece, Value, Takes, Says, Led, SpellsTy, SpellsKind, SpellsTyped, Word, Name, Labelled, Code, ActCode, Comparison, Flags, OfKind, Bare, Other, Typed, Also, Aligned, Element, Mask, Target, AlsoTarget, Case, Pairs}
 use Rattle.ir_line.specs.Grammar.{Grammar, Done, Then, Or, read, read_piece, ends}
 use Rattle.ir_line.specs.Forms as forms
 use Rattle.ir_line.specs.Forms.{Form, Slot, slot, word, slots, Spell, line_of, form, value_line, by_code, binary, compare, convert, select, extract, insert, shuffle, step, stepped, load, allocate, phi, plain_line, act_line, by_act, store, returns, return_value, jump, branch, switch, choices, choice}
-use Rattle.ir_line.proofs.Steps.{nothing, clash, some_is, bind_then, when_then, cond_then, choose_then, bytes_is, expect_is, expects, first_is, one_says, says_one, apart, by_word_is}
+use Rattle.ir_line.proofs.Steps.{nothing, some_is, bind_then, choose_then, expect_is, expects, one_says, says_one, apart, by_word_is}
 use Rattle.ir_line.proofs.FlagWords.{flags_taken, flags_takes}
-use Rattle.ir_line.proofs.Parts.{NoTy, ty_not, kind_taken, kind_takes, operand_taken, operand_takes, typed_taken, typed_takes, no_local}
+use Rattle.ir_line.proofs.Parts.{ty_not, kind_taken, kind_takes, operand_taken, operand_takes, typed_taken, typed_takes, no_local}
 use Rattle.ir_line.proofs.Places.{other_taken, other_takes, also_taken, also_takes, aligned_taken, aligned_takes, elem_taken, elem_takes, mask_taken, mask_takes, target_taken, target_takes, also_target_taken, also_target_takes, labelled_taken, labelled_takes, pairs_taken, pairs_takes, no_colon, no_close, no_void, no_label}
 
 opcode_again : (op : Opcode) → opcode_of (opcode_word op) ≡ Some op

@@ -1,19 +1,14 @@
 -- What a line inside a function spells.
-use Rattle.std.specs.Prelude.{◌≡◌, ℕ, suc, zero, Bool, true, false, not, ◌&&◌, cond, Option, Some, None, List, [], ◌∷◌, codes, bytes_eq, nat_eq, nat_lt}
+use Rattle.std.specs.Prelude.{◌≡◌, ℕ, suc, Bool, true, false, ◌&&◌, cond, Option, Some, None, List, [], ◌∷◌, codes, bytes_eq, nat_eq, take}
 use Rattle.std.specs.List.{list_all}
 use Rattle.ir_lex.specs.declared.list.Token.{Token}
 use Rattle.ir_lex.specs.Words.{words}
 use Rattle.ir_line.specs.declared.line.Line.{Line}
 use Rattle.ir_line.specs.declared.line.Line.TheVariants.{Empty, Close}
-use Rattle.ir_line.specs.Words.{Words}
-use Rattle.ir_line.specs.Reading.{split}
+use Rattle.ir_line.specs.Words.{Words, is_ascii}
+use Rattle.ir_line.specs.Calls.{call}
 use Rattle.ir_line.specs.Forms.{Form, slots, Spell, line_of, form}
 use Rattle.ir_line.specs.Grammar.{read}
-
--- whether a token is no byte of 128 or above
-abbrev pub is_ascii : List ℕ → Bool
-is_ascii [] = true
-is_ascii (b ∷ bs) = nat_lt b 128
 
 -- whether a word begins with `!`
 abbrev pub is_mark : List ℕ → Bool
@@ -29,22 +24,20 @@ abbrev pub attachment_at : Words → ℕ
 attachment_at [] = 0
 attachment_at (t ∷ ts) = cond (bytes_eq t (codes ",") && begins_mark ts) 0 (suc (attachment_at ts))
 
--- the words before the attachments, which run to the end of the line
-abbrev pub unattached : Words → Words
-unattached ts = (split (attachment_at ts) ts).0
-
--- what the words of a line inside a function spell
-pub data SpellsBody (ts : Words) : Line → Type 0 where
-  -- no word
-  NoWord : ts ≡ [] → SpellsBody ts Empty
-  -- `}` alone
-  Brace : ts ≡ codes "}" ∷ [] → SpellsBody ts Close
-  -- a form, in words of ASCII, behind which attachments may stand
-  Formed : (f : Form) → list_all is_ascii ts ≡ true → Spell (slots f) (unattached ts) → SpellsBody ts (line_of f)
+-- the tokens before the attachments, which run to the end of the line
+abbrev pub unattached : List ℕ → List Token → List Token
+unattached line ts = take (attachment_at (words line ts)) ts
 
 -- what a line inside a function spells, by its bytes and its tokens
-abbrev pub Spells : List ℕ → List Token → Line → Type 0
-Spells line ts l = SpellsBody (words line ts) l
+pub data Spells (line : List ℕ) (ts : List Token) : Line → Type 0 where
+  -- no token
+  NoWord : ts ≡ [] → Spells line ts Empty
+  -- `}` alone
+  Brace : words line ts ≡ codes "}" ∷ [] → Spells line ts Close
+  -- a form of parts, in words of ASCII, behind which attachments may stand
+  Formed : (f : Form) → list_all is_ascii (words line ts) ≡ true → Spell (slots f) (words line (unattached line ts)) → Spells line ts (line_of f)
+  -- a call, the same
+  Called : (l : Line) → list_all is_ascii (words line ts) ≡ true → call line (unattached line ts) ≡ Some l → Spells line ts l
 
 -- the line that the words are found to be
 abbrev pub is_brace : Words → Bool
@@ -52,9 +45,17 @@ is_brace [] = false
 is_brace (t ∷ []) = bytes_eq t (codes "}")
 is_brace (t ∷ u ∷ ts) = false
 
-unfoldable pub read_form : Words → Option Line
-read_form ts = cond (list_all is_ascii ts) (read line_of form (unattached ts)) None
+abbrev pub or_call : Option Line → Option Line → Option Line
+or_call None found = found
+or_call (Some l) found = Some l
 
-unfoldable pub read_body : Words → Option Line
-read_body [] = Some Empty
-read_body (t ∷ ts) = cond (is_brace (t ∷ ts)) (Some Close) (read_form (t ∷ ts))
+-- a form of parts, or a call, that is all of these tokens
+abbrev pub form_or_call : List ℕ → List Token → Option Line
+form_or_call line ts = or_call (read line_of form (words line ts)) (call line ts)
+
+unfoldable pub read_form : List ℕ → List Token → Option Line
+read_form line ts = cond (list_all is_ascii (words line ts)) (form_or_call line (unattached line ts)) None
+
+unfoldable pub read_body : List ℕ → List Token → Option Line
+read_body line [] = Some Empty
+read_body line (t ∷ ts) = cond (is_brace (words line (t ∷ ts))) (Some Close) (read_form line (t ∷ ts))

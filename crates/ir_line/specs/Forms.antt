@@ -1,7 +1,7 @@
--- The forms of the lines inside functions: for each form its free choices (`Form`), the line that it is (`line_of`), its parts in
+-- The forms of the lines inside functions, but the call: for each form its free choices (`Form`), the line that it is (`line_of`), its parts in
 -- order (`slots`), and the tree by which it is read.
 -- LLVM Language Reference, "Instruction Reference", has the forms one by one.
-use Rattle.std.specs.Prelude.{◌≡◌, ℕ, Bool, true, false, Option, Some, None, unwrap_or, List, [], ◌∷◌, codes}
+use Rattle.std.specs.Prelude.{◌≡◌, ℕ, Bool, Option, Some, None, unwrap_or, List, [], ◌∷◌, codes}
 use Rattle.vx_num.specs.declared.operations.BinOp.{BinOp}
 use Rattle.vx_num.specs.declared.operations.BinOp.TheVariants.{Add, Sub, Mul, Shl, Udiv, Sdiv, Urem, Srem, Lshr, Ashr, And, Or as OrOp, Xor}
 use Rattle.vx_num.specs.declared.operations.Pred.{Pred}
@@ -24,7 +24,6 @@ use Rattle.ir_line.specs.declared.opcode.Act.{Act}
 use Rattle.ir_line.specs.declared.opcode.Act.TheVariants as act
 use Rattle.ir_line.specs.declared.written.Written.{Written}
 use Rattle.ir_line.specs.declared.written.Arg.{Arg}
-use Rattle.ir_line.specs.declared.stmt.Stmt.{Stmt}
 use Rattle.ir_line.specs.declared.line.Line.{Line}
 use Rattle.ir_line.specs.declared.line.Line.TheVariants as lines
 use Rattle.ir_line.specs.declared.pairs.Incoming.{Incoming}
@@ -32,7 +31,7 @@ use Rattle.ir_line.specs.Kinds.{bits_of}
 use Rattle.ir_line.specs.Words.{Words}
 use Rattle.ir_line.specs.Reading.{has, also_at, choose}
 use Rattle.ir_line.specs.Pieces.{Piece, Value, Takes, Word, Name, Labelled, Code, ActCode, Comparison, Flags, OfKind, Bare, Other, Typed, Also, Aligned, Element, Mask, Target, AlsoTarget, Case, Pairs}
-use Rattle.ir_line.specs.Grammar.{Grammar, Done, Then, Or, ends, ◌>>=◌, ◌>>◌}
+use Rattle.ir_line.specs.Grammar.{Grammar, Done, Or, ends, ◌>>=◌, ◌>>◌}
 
 -- the forms, with all that a line of each may choose, also what is dropped
 pub data Form : Type 0 where

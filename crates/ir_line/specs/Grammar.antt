@@ -1,5 +1,5 @@
 -- Forms as trees of parts: what is read first, and how it goes on by what was read.
-use Rattle.std.specs.Prelude.{◌≡◌, ℕ, Option, Some, None, List, [], ◌∷◌, codes}
+use Rattle.std.specs.Prelude.{Option, Some, None, [], ◌∷◌}
 use Rattle.ir_line.specs.Values.{local_of, opcode_of, act_of, pred_of}
 use Rattle.ir_line.specs.Words.{Words, ◌>>=◌ as ◌>>>=◌, one, expect}
 use Rattle.ir_line.specs.Reading.{flags_at, kind_at, operand_at, other_at, typed_at, also_at, aligned_at, elem_at, mask_at, target_at, also_target_at, labelled_at, case_at, pairs_at, choose}

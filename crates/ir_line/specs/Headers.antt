@@ -1,20 +1,19 @@
 -- The header of a function: what stands where between `define` and the last brace.
 -- LLVM Language Reference, "Functions" and "Parameter Attributes".
-use Rattle.std.specs.Prelude.{◌≡◌, ℕ, suc, zero, ◌+◌, ◌-◌, Bool, true, false, not, ◌&&◌, ◌||◌, cond, Option, Some, None, option_map, List, [], ◌∷◌, ◌++◌, codes, bytes_eq, nat_eq, length, take, drop}
+use Rattle.std.specs.Prelude.{ℕ, suc, ◌+◌, ◌-◌, Bool, false, not, ◌&&◌, ◌||◌, cond, Option, Some, None, option_map, List, [], ◌∷◌, ◌++◌, codes, bytes_eq, nat_eq, length, take, drop}
 use Rattle.std.specs.List.{list_all}
 use Rattle.std.specs.Char.{is_ascii_alphabetic}
 use Rattle.ir_lex.specs.Bytes.{quote}
 use Rattle.ir_lex.specs.declared.list.Token.{Token}
 use Rattle.ir_lex.specs.Words.{word, words}
 use Rattle.ir_types.specs.declared.ty.Ty.{Ty}
-use Rattle.ir_types.specs.declared.ty.Ty.TheVariants.{Void, Int, Ptr, Row}
+use Rattle.ir_types.specs.declared.ty.Ty.TheVariants.{Void, Row}
 use Rattle.ir_types.specs.declared.func.Param.{Param}
 use Rattle.ir_line.specs.declared.head.Head.{Head}
 use Rattle.ir_line.specs.Values.{local_of, symbol_of}
-use Rattle.ir_line.specs.Words.{Words, ◌>>=◌, one, is_first}
+use Rattle.ir_line.specs.Words.{Words, ◌>>=◌, one, is_first, is_ascii}
 use Rattle.ir_line.specs.Reading.{ty_at}
-use Rattle.ir_line.specs.Keeping.{is_digits, is_some, first_symbol}
-use Rattle.ir_line.specs.Body.{is_ascii}
+use Rattle.ir_line.specs.Keeping.{is_digits, is_some}
 
 -- the bytes from the first to the last of these tokens
 abbrev pub last_to : ℕ → List Token → ℕ

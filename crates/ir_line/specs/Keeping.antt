@@ -1,8 +1,8 @@
 -- Lines outside functions that are kept: which they are, and what is read of them.
-use Rattle.std.specs.Prelude.{◌≡◌, refl, ℕ, ◌-◌, Bool, true, false, not, ◌&&◌, ◌||◌, cond, Option, Some, None, List, [], ◌∷◌, codes, bytes_eq, nat_eq, length, take, reverse}
+use Rattle.std.specs.Prelude.{ℕ, ◌-◌, Bool, true, false, not, ◌&&◌, ◌||◌, cond, Option, Some, None, List, [], ◌∷◌, codes, bytes_eq, nat_eq, length, take, reverse}
 use Rattle.std.specs.List.{list_all, prefix_len}
 use Rattle.std.specs.Char.{is_ascii_digit}
-use Rattle.ir_lex.specs.Bytes.{quote, begins_name}
+use Rattle.ir_lex.specs.Bytes.{begins_name}
 use Rattle.ir_line.specs.declared.kept.Kept.{Kept}
 use Rattle.ir_line.specs.Values.{symbol_of}
 use Rattle.ir_line.specs.Words.{Words, is_first, behind}

@@ -1,6 +1,6 @@
 -- What the string of a `target datalayout` line says of byte order and of pointers.
 -- LLVM Language Reference, "Data Layout".
-use Rattle.std.specs.Prelude.{◌≡◌, refl, ℕ, ◌==◌, Bool, true, false, not, ◌&&◌, ◌||◌, cond, Option, Some, None, List, [], ◌∷◌, codes, take, nat_eq}
+use Rattle.std.specs.Prelude.{◌≡◌, refl, ℕ, Bool, true, false, not, ◌&&◌, ◌||◌, cond, Option, Some, None, List, [], ◌∷◌, codes, take, nat_eq}
 use Rattle.std.specs.List.{prefix_len}
 use Rattle.ir_lex.specs.Bytes.{quote}
 use Rattle.ir_line.specs.Values.{number_of, one_more}

@@ -1,6 +1,7 @@
 -- What a line spells.
 pub mod Answers
 pub mod Body
+pub mod Calls
 pub mod Forms
 pub mod Grammar
 pub mod Headers

@@ -1,10 +1,10 @@
 -- What a line outside functions spells.
-use Rattle.std.specs.Prelude.{◌≡◌, ℕ, Bool, true, false, ◌&&◌, cond, Option, Some, None, List, [], ◌∷◌, codes}
+use Rattle.std.specs.Prelude.{◌≡◌, ℕ, Bool, true, ◌&&◌, cond, Option, Some, None, List, [], ◌∷◌, codes}
 use Rattle.ir_lex.specs.declared.list.Token.{Token}
 use Rattle.ir_lex.specs.Words.{words}
 use Rattle.ir_line.specs.declared.line.Line.{Line}
 use Rattle.ir_line.specs.declared.line.Line.TheVariants.{Empty, Kept, Define}
-use Rattle.ir_line.specs.Words.{Words, is_first}
+use Rattle.ir_line.specs.Words.{is_first}
 use Rattle.ir_line.specs.Keeping.{is_kept, kept_of, first_symbol}
 use Rattle.ir_line.specs.Headers.{header, ends_open}
 

@@ -1,10 +1,10 @@
 -- The parts of a line and their spellings: for each part a relation from its value to the words that spell it, with the words
 -- that follow. A part that may be absent says which word does not follow.
-use Rattle.std.specs.Prelude.{◌≡◌, ℕ, ◌+◌, ◌*◌, Bool, true, false, Option, Some, None, List, [], ◌∷◌, ◌++◌, codes, length, replicate}
+use Rattle.std.specs.Prelude.{◌≡◌, ℕ, ◌+◌, ◌*◌, true, false, Option, Some, None, List, [], ◌∷◌, ◌++◌, codes, length, replicate}
 use Rattle.std.specs.List.{list_all}
 use Rattle.vx_num.specs.declared.operations.Pred.{Pred}
 use Rattle.ir_types.specs.declared.ty.Ty.{Ty}
-use Rattle.ir_types.specs.declared.ty.Ty.TheVariants.{Void, Int, Ptr, Row}
+use Rattle.ir_types.specs.declared.ty.Ty.TheVariants.{Int, Ptr, Row}
 use Rattle.ir_types.specs.declared.ty.Elem.{Elem}
 use Rattle.ir_types.specs.declared.ty.Elem.TheVariants.{One, Array}
 use Rattle.ir_line.specs.declared.kinds.Kind.{Kind}
@@ -18,7 +18,7 @@ use Rattle.ir_line.specs.declared.pairs.Incoming.{Incoming}
 use Rattle.ir_line.specs.Kinds.{fits, is_pointer, bits_of, lanes_of}
 use Rattle.ir_line.specs.Values.{width_of, number_of, align_of, bits_number, lane_of, local_of, symbol_of, label_of, opcode_word, act_word, pred_word}
 use Rattle.ir_line.specs.Words.{Words, is_first}
-use Rattle.ir_line.specs.Reading.{allows, is_distinct, is_row, are_entries, length_of, item_of, none, put, both}
+use Rattle.ir_line.specs.Reading.{allows, is_distinct, is_row, are_entries, length_of, item_of, put, both}
 
 -- one word that says v
 pub record Says {A : Type 0} (f : List ℕ → Option A) (v : A) (ts rest : Words) : Type 0 where

@@ -1,14 +1,13 @@
 -- How each part of a line is read from the front of its words: what it is, and the words that are left.
 -- That these readers give exactly what `Pieces` calls a spelling of the part is proved beside them.
-use Rattle.std.specs.Prelude.{◌≡◌, ℕ, suc, zero, ◌+◌, ◌*◌, ◌^◌, Bool, true, false, not, ◌&&◌, ◌||◌, cond, Option, Some, None, List, [], ◌∷◌, ◌++◌, bytes_eq, nat_eq, nat_lt, nat_le, codes, length, replicate}
+use Rattle.std.specs.Prelude.{ℕ, suc, zero, ◌+◌, ◌*◌, ◌^◌, Bool, true, false, not, ◌&&◌, ◌||◌, cond, Option, Some, None, List, [], ◌∷◌, ◌++◌, bytes_eq, nat_eq, nat_lt, nat_le, codes, length, replicate}
 use Rattle.std.specs.List.{list_all}
 use Rattle.ir_types.specs.declared.ty.Ty.{Ty}
 use Rattle.ir_types.specs.declared.ty.Ty.TheVariants.{Void, Int, Ptr, Row}
 use Rattle.ir_types.specs.declared.ty.Elem.{Elem}
 use Rattle.ir_types.specs.declared.ty.Elem.TheVariants.{One, Array}
-use Rattle.ir_types.specs.declared.literal.Literal.{Literal}
 use Rattle.ir_line.specs.declared.kinds.Kind.{Kind}
-use Rattle.ir_line.specs.declared.kinds.Kind.TheVariants.{Mask, Pointer}
+use Rattle.ir_line.specs.declared.kinds.Kind.TheVariants.{Mask}
 use Rattle.ir_line.specs.declared.flags.FlagSet.{FlagSet}
 use Rattle.ir_line.specs.declared.flags.FlagSet.TheVariants.{Plain, Wrap, Exact, Disjoint, NonNegative, Address, SameSign}
 use Rattle.ir_line.specs.declared.written.Written.{Written}
@@ -17,7 +16,7 @@ use Rattle.ir_line.specs.declared.written.Arg.{Arg}
 use Rattle.ir_line.specs.declared.pairs.Incoming.{Incoming}
 use Rattle.ir_line.specs.Kinds.{fits, is_pointer, bits_of, lanes_of}
 use Rattle.ir_line.specs.Values.{width_of, number_of, align_of, bits_number, lane_of, local_of, symbol_of, label_of}
-use Rattle.ir_line.specs.Words.{Words, ◌>>=◌, when, next, one, expect, is_first, behind}
+use Rattle.ir_line.specs.Words.{Words, ◌>>=◌, when, one, expect, is_first, behind}
 
 -- flags
 

@@ -1,5 +1,5 @@
 -- What one word says by itself: a width, a number, a lane, a name, a keyword.
-use Rattle.std.specs.Prelude.{◌≡◌, refl, ℕ, ◌+◌, ◌-◌, ◌*◌, ◌^◌, Bool, true, false, not, ◌&&◌, ◌||◌, cond, Option, Some, None, List, [], ◌∷◌, ◌++◌, bytes_eq, nat_eq, nat_lt, nat_le, codes}
+use Rattle.std.specs.Prelude.{◌≡◌, refl, ℕ, ◌+◌, ◌-◌, ◌*◌, ◌^◌, Bool, ◌&&◌, cond, Option, Some, None, List, [], ◌∷◌, bytes_eq, nat_eq, nat_lt, nat_le, codes}
 use Rattle.std.specs.Char.{is_ascii_digit}
 use Rattle.std.specs.Int.{is_power_of_two}
 use Rattle.std.specs.List.{list_all}
@@ -10,8 +10,6 @@ use Rattle.vx_num.specs.declared.operations.Pred.{Pred}
 use Rattle.vx_num.specs.declared.operations.Pred.TheVariants.{Eq, Ne, Ugt, Uge, Ult, Ule, Sgt, Sge, Slt, Sle}
 use Rattle.vx_num.specs.declared.operations.CastOp.{CastOp}
 use Rattle.vx_num.specs.declared.operations.CastOp.TheVariants.{Zext, Sext, Trunc}
-use Rattle.ir_types.specs.declared.ty.Ty.{Ty}
-use Rattle.ir_types.specs.declared.ty.Ty.TheVariants.{Void, Int, Ptr, Row}
 use Rattle.ir_line.specs.declared.opcode.Opcode.{Opcode}
 use Rattle.ir_line.specs.declared.opcode.Opcode.TheVariants.{Bin, Cast, Icmp, Select, Extract, Insert, Shuffle, Gep, Load, Alloca, Phi}
 use Rattle.ir_line.specs.declared.opcode.Act.{Act}

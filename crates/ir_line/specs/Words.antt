@@ -1,11 +1,16 @@
 -- The words of a line, and the small tools of reading them from the front.
-use Rattle.std.specs.Prelude.{◌≡◌, ℕ, ◌+◌, Bool, true, false, not, ◌&&◌, ◌||◌, cond, Option, Some, None, Result, Ok, Err, option_and_then, List, [], ◌∷◌, ◌++◌, bytes_eq, codes}
+use Rattle.std.specs.Prelude.{◌≡◌, ℕ, Bool, true, false, cond, Option, Some, None, Result, Ok, Err, option_and_then, List, [], ◌∷◌, bytes_eq, nat_lt}
 use Rattle.ir_line.specs.declared.refusal.Stop.{Stop}
 use Rattle.ir_line.specs.declared.refusal.Stop.TheVariants.{NotALine, OutOfMemory}
 
 -- a line as the bytes of its tokens
 abbrev pub Words : Type 0
 Words = List (List ℕ)
+
+-- whether a token is no byte of 128 or above
+abbrev pub is_ascii : List ℕ → Bool
+is_ascii [] = true
+is_ascii (b ∷ bs) = nat_lt b 128
 
 infixl 10 ◌>>=◌
 abbrev pub ◌>>=◌ : {A B : Type 0} → Option A → (A → Option B) → Option B

@@ -3,7 +3,6 @@
 //! The entry point is `body_line`. Attachments are left out first; an empty line and a brace are told by themselves.
 
 ghost use Rattle.std.specs.Prelude.{◌≡◌, ◌≤◌, length, bytes_eq, IfOk, IfErr, Option, Some};
-ghost use Rattle.std.specs.List.{list_all};
 ghost use Rattle.ir_lex.specs.Tokens.{Lexed};
 ghost use Rattle.ir_lex.specs.Words.{words};
 ghost use Rattle.ir_line.specs.Words.{Gives};
@@ -12,36 +11,13 @@ ghost use Rattle.ir_line.specs.Answers.{Answers, IsNumbered};
 ghost use Rattle.ir_line.specs.declared.line.Line.{Line};
 
 use crate::act_lines::form;
-use crate::flags::split;
+use crate::calls::call;
+use crate::headers::front;
 use crate::refusal::Stop;
-use crate::words::{is, is_first};
+use crate::words::{all_ascii, is, is_first};
 use crate::{Line, LineRefusal};
 use ir_lex::{Token, Tokens, text};
 use std::alloc::Global;
-
-/// Whether a token is no byte of 128 or above.
-fn is_ascii(word: &[u8]) -> bool
-    ensures { result ≡ body.is_ascii word.now }
-{
-    match word {
-        [] => true,
-        [first, ..] => *first < 128,
-    }
-}
-
-/// Whether all tokens are.
-pub(crate) fn all_ascii(line: &[u8], tokens: &[Token]) -> bool
-    ensures { result ≡ list_all body.is_ascii (words line.now tokens.now) }
-{
-    let mut rest = tokens;
-    'each: while let [token, after @ ..] = rest {
-        if !is_ascii(text(line, *token)) {
-            return false;
-        }
-        rest = after;
-    }
-    true
-}
 
 /// Whether a word begins with `!`.
 fn is_mark(word: &[u8]) -> bool
@@ -77,22 +53,33 @@ fn attachment_at(line: &[u8], tokens: &[Token]) -> usize
     count
 }
 
-/// The words before the attachments.
+/// The tokens before the attachments.
 fn unattached<'a>(line: &'a [u8], tokens: &'a [Token]) -> &'a [Token]
-    ensures { words line.now result.now ≡ body.unattached (words line.now tokens.now) }
+    ensures { result.now ≡ body.unattached line.now tokens.now }
 {
-    split(line, tokens, attachment_at(line, tokens)).0
+    front(tokens, attachment_at(line, tokens))
+}
+
+/// A line without attachments: a form of parts, or a call.
+fn form_or_call(alloc: Global, line: &[u8], tokens: &[Token]) -> Result<Line, Stop>
+    ensures { Gives (λ x. x) result (body.form_or_call line.now tokens.now) }
+{
+    match form(alloc, line, tokens) {
+        Ok(found) => Ok(found),
+        Err(Stop::NotALine) => call(alloc, line, tokens),
+        Err(Stop::OutOfMemory) => Err(Stop::OutOfMemory),
+    }
 }
 
 /// A line that is neither empty nor a brace.
 #[tactic(auto, unfolding(crate::specs::Body::read_form))]
 fn read_form(alloc: Global, line: &[u8], tokens: &[Token]) -> Result<Line, Stop>
-    ensures { Gives (λ x. x) result (body.read_form (words line.now tokens.now)) }
+    ensures { Gives (λ x. x) result (body.read_form line.now tokens.now) }
 {
     if !all_ascii(line, tokens) {
         return Err(Stop::NotALine);
     }
-    form(alloc, line, unattached(line, tokens))
+    form_or_call(alloc, line, unattached(line, tokens))
 }
 
 /// Whether the line is a brace alone.
@@ -108,7 +95,7 @@ fn is_brace(line: &[u8], tokens: &[Token]) -> bool
 /// A line inside a function.
 #[tactic(auto, unfolding(crate::specs::Body::read_body))]
 fn read_body(alloc: Global, line: &[u8], tokens: &[Token]) -> Result<Line, Stop>
-    ensures { Gives (λ x. x) result (body.read_body (words line.now tokens.now)) }
+    ensures { Gives (λ x. x) result (body.read_body line.now tokens.now) }
 {
     match tokens {
         [] => Ok(Line::Empty),

@@ -10,19 +10,18 @@ ghost use Rattle.ir_line.specs.Reading as reading;
 ghost use Rattle.ir_line.specs.Headers as headers;
 
 use crate::Head;
-use crate::body::all_ascii;
 use crate::keeping::is_digits;
 use crate::operands::local;
 use crate::refusal::Stop;
 use crate::types::ty;
 use crate::values::{copied, is_plain, symbol_of};
-use crate::words::{is, is_first, next};
+use crate::words::{all_ascii, is, is_first, next};
 use ir_lex::{Token, text};
 use ir_types::{Bytes, Id, Param, Params, Ty};
 use std::alloc::Global;
 
 /// What is left behind so many tokens.
-fn skip<'a>(tokens: &'a [Token], count: usize) -> &'a [Token]
+pub(crate) fn skip<'a>(tokens: &'a [Token], count: usize) -> &'a [Token]
     ensures { result.now ≡ drop count tokens.now }
 {
     if count > tokens.len() {
@@ -32,7 +31,7 @@ fn skip<'a>(tokens: &'a [Token], count: usize) -> &'a [Token]
 }
 
 /// So many tokens at the front.
-fn front<'a>(tokens: &'a [Token], count: usize) -> &'a [Token]
+pub(crate) fn front<'a>(tokens: &'a [Token], count: usize) -> &'a [Token]
     ensures { result.now ≡ take count tokens.now }
 {
     if count > tokens.len() {
@@ -71,7 +70,7 @@ pub(crate) fn span(alloc: Global, line: &[u8], tokens: &[Token]) -> Result<Bytes
 }
 
 /// How many parentheses are open behind a word.
-fn depth_after(depth: usize, word: &[u8]) -> usize
+pub(crate) fn depth_after(depth: usize, word: &[u8]) -> usize
     requires { depth < 2 ^ 64 - 1 }
     ensures { result ≡ headers.depth_after depth word.now }
 {
@@ -105,7 +104,7 @@ fn goes_on(depth: usize, word: &[u8]) -> bool
 }
 
 /// How many words of attributes stand at the front.
-fn attrs_len(line: &[u8], tokens: &[Token]) -> usize
+pub(crate) fn attrs_len(line: &[u8], tokens: &[Token]) -> usize
     ensures value { result ≡ headers.attrs_len 0 (words line.now tokens.now) }
     ensures within { result ≤ length tokens.now }
 {
@@ -142,7 +141,7 @@ fn stands(line: &[u8], tokens: &[Token], wanted: &[u8]) -> bool
 }
 
 /// Whether attributes put a header outside the profile.
-fn is_banned(line: &[u8], tokens: &[Token]) -> bool
+pub(crate) fn is_banned(line: &[u8], tokens: &[Token]) -> bool
     ensures { result ≡ headers.is_banned (words line.now tokens.now) }
 {
     stands(line, tokens, b"byval")
@@ -155,7 +154,7 @@ fn is_banned(line: &[u8], tokens: &[Token]) -> bool
 }
 
 /// How many words a type has.
-fn ty_len(ty: Ty) -> usize
+pub(crate) fn ty_len(ty: Ty) -> usize
     ensures { result ≡ headers.ty_len ty }
 {
     match ty {
@@ -342,7 +341,7 @@ fn whole(line: &[u8], tokens: &[Token]) -> Result<Ty, Stop>
 
 /// The type at the end of these tokens.
 #[tactic(auto, unfolding(crate::specs::Headers::ret_of))]
-fn ret_of(line: &[u8], tokens: &[Token]) -> Result<Ty, Stop>
+pub(crate) fn ret_of(line: &[u8], tokens: &[Token]) -> Result<Ty, Stop>
     ensures { Gives (λ x. x) result (headers.ret_of line.now tokens.now) }
 {
     let last = last_tokens(tokens, 1);
@@ -356,7 +355,7 @@ fn ret_of(line: &[u8], tokens: &[Token]) -> Result<Ty, Stop>
 }
 
 /// The plain name at the front.
-fn callee(alloc: Global, line: &[u8], tokens: &[Token]) -> Result<Bytes, Stop>
+pub(crate) fn callee(alloc: Global, line: &[u8], tokens: &[Token]) -> Result<Bytes, Stop>
     ensures { Gives (λ x. x) result (option_map (λ x. x.0) (one values.symbol_of (words line.now tokens.now))) }
 {
     let (word, _) = next(line, tokens)?;

@@ -4,11 +4,12 @@
 //! one form that the line spells, or refuses where it spells none, or for want of memory. Names are as they are written.
 //!
 //! Inside, the rest of a line is its bytes and the tokens that are left; nothing is copied but what a form keeps. The time is
-//! linear in the line. Calls (`call`) are not among the forms yet.
+//! linear in the line.
 #![tactic(auto)]
 
 mod act_lines;
 mod body;
+mod calls;
 mod draft;
 mod flags;
 mod head;

@@ -4,7 +4,7 @@ ghost use Rattle.std.specs.Prelude.{◌+◌, ◌<◌, ◌^◌, length};
 
 use super::*;
 use ir_lex::{LexRefusal, tokens};
-use ir_types::{Op, Params, Ty};
+use ir_types::{Bytes, Op, Params, Texts, Ty};
 use std::alloc::Global;
 use vx_num::BinOp;
 
@@ -143,6 +143,105 @@ const NO_FORMS: [&[u8]; 66] = [
     b"call:x",
 ];
 
+/// Calls that are forms.
+const CALLS: [&[u8]; 14] = [
+    b"call void @k()",
+    b"notail call void @k()",
+    b"%r = tail call noundef i32 @f(i32 noundef %a, ptr nonnull align 4 %p) #3",
+    b"%r = call <2 x i32> @f(<2 x i32> <i32 1, i32 2>, i32 zeroext -1)",
+    b"call void @k(<2 x i32> splat (i32 1), i1 true, ptr @g)",
+    b"call void @k(<4 x i8> inreg_like zeroinitializer, ptr poison)",
+    b"call void @k(i32 range(i32 0, 5) %x, ptr captures(none, @h) \"a\"=\"b\" @g)",
+    b"call void @k(i32 foo(byval < , > [ ) %x)",
+    b"call void @k(i32 align 4)",
+    b"call elementtype(@g) void @k()",
+    b"call fastcc void @k() nounwind #0 foo(( )), !dbg !4",
+    b"%7 = notail call ptr @llvm.x.y(ptr %p), !srcloc !{ [",
+    b"%r=call i1 @f(i1 false)",
+    b"call void @k(ptr \"\xc3\xa9\" %p)",
+];
+
+/// Calls that are not.
+const NO_CALLS: [&[u8]; 33] = [
+    b"call i32 @f()",
+    b"%r = call void @k()",
+    b"musttail call void @k()",
+    b"tail notail call void @k()",
+    b"tail void @k()",
+    b"call void @k(i32 byval(i32) %x)",
+    b"call void @k(ptr sret(i32) %x)",
+    b"call void @k(ptr inalloca(i32) %x)",
+    b"call void @k(ptr preallocated(i32) %x)",
+    b"call void @k(i32 inreg %x)",
+    b"call void @k(ptr nest %x)",
+    b"call void @k(ptr addrspace(1) %x)",
+    b"call void @k() [ \"deopt\"() ]",
+    b"call void @k())",
+    b"call void @k()(",
+    b"call void @k() ) (",
+    b"call ) void @k()",
+    b"call void (@k)()",
+    b"call void (i32, ...) @k(i32 1)",
+    b"call void %p()",
+    b"call void @\"q\"()",
+    b"call void @f",
+    b"call void @f @k()",
+    b"call void @k(",
+    b"call void @k(i32)",
+    b"call void @k(i32 1,)",
+    b"call void @k(i32 %a i32 %b)",
+    b"call void @k(i32 * %p)",
+    b"call void @k(i32 _x %p)",
+    b"call void @k(<2 x i32> <i32 1>)",
+    b"call void @k(float %x)",
+    b"call float @f()",
+    b"%r call i32 @f()",
+];
+
+/// Calls of two arguments: the line, the result's name, TAIL, PRE, the name of the function, the attributes of each argument, POST.
+const CALL_PARTS: [[&[u8]; 8]; 4] = [
+    [
+        b"%r = tail call noundef i32 @f(i32 noundef %a, ptr nonnull align 4 %p) #3",
+        b"r",
+        b"tail",
+        b"noundef",
+        b"f",
+        b"noundef",
+        b"nonnull align 4",
+        b"#3",
+    ],
+    [
+        b"  %007 =notail call  fastcc   range( i32 0, 5 ) i32 @g.1 ( i32  foo( 1 , 2 )bar 3 , i8 -4 ) #1  #2 , !dbg !4",
+        b"7",
+        b"notail",
+        b"fastcc   range( i32 0, 5 )",
+        b"g.1",
+        b"foo( 1 , 2 )bar",
+        b"",
+        b"#1  #2",
+    ],
+    [
+        b"%x = call i32 @f(<2 x i32> <i32 1, i32 2>, <4 x i8> noundef splat (i8 1)) ; comment",
+        b"x",
+        b"",
+        b"",
+        b"f",
+        b"",
+        b"noundef",
+        b"",
+    ],
+    [
+        b"%x = call <2 x i32> elementtype(@g) i32 @f(i32 align 4, i32 \"a\"=\"b\" %y) memory(none)",
+        b"x",
+        b"",
+        b"<2 x i32> elementtype(@g)",
+        b"f",
+        b"align",
+        b"\"a\"=\"b\"",
+        b"memory(none)",
+    ],
+];
+
 /// Lines outside functions: those that are kept.
 const KEPT: [&[u8]; 16] = [
     b"source_filename = \"a.c\"",
@@ -225,6 +324,10 @@ fn forms_are_read(rt: HostRuntime) -> Result<(), LexRefusal> {
         assert!(rt; line.len() < 1000);
         assert!(rt; has_form(rt.alloc(), line)?, "a form is refused");
     }
+    for line in CALLS {
+        assert!(rt; line.len() < 1000);
+        assert!(rt; has_form(rt.alloc(), line)?, "a call is refused");
+    }
     Ok(())
 }
 
@@ -233,6 +336,10 @@ fn other_lines_are_refused(rt: HostRuntime) -> Result<(), LexRefusal> {
     for line in NO_FORMS {
         assert!(rt; line.len() < 1000);
         assert!(rt; !has_form(rt.alloc(), line)?, "a form is read");
+    }
+    for line in NO_CALLS {
+        assert!(rt; line.len() < 1000);
+        assert!(rt; !has_form(rt.alloc(), line)?, "a call is read");
     }
     Ok(())
 }
@@ -285,6 +392,110 @@ fn a_statement_is_read(rt: HostRuntime) -> Result<(), LexRefusal> {
     match body_line(rt.alloc(), line, &t, 1) {
         Ok(Line::Stmt(stmt)) => assert!(rt; is_addition(stmt)),
         _ => panic!(rt; "no statement"),
+    }
+    Ok(())
+}
+
+/// Whether bytes are these.
+fn says(bytes: &Bytes, text: &[u8]) -> bool {
+    bytes.as_slice() == text
+}
+
+/// Whether a statement is a call of type i32 with these parts.
+fn is_call(stmt: &Stmt, parts: [&[u8]; 8]) -> bool {
+    let [_, result, tail, pre, callee, first, second, post] = parts;
+    let named = match &stmt.result {
+        Some(name) => says(name, result),
+        None => false,
+    };
+    let calls = match &stmt.op {
+        Op::Call {
+            tail: t,
+            pre: p,
+            callee: c,
+            attrs,
+            post: q,
+        } => says(t, tail)
+            && says(p, pre)
+            && says(c, callee)
+            && says(q, post)
+            && has_attrs(attrs, first, second),
+        _ => false,
+    };
+    named && calls && stmt.ty == Ty::Int(32) && stmt.args.len() == 2 && stmt.labels.is_empty()
+}
+
+/// Whether the attributes are those of two arguments.
+fn has_attrs(attrs: &Texts, first: &[u8], second: &[u8]) -> bool {
+    match attrs.as_slice() {
+        [a, b] => says(a, first) && says(b, second),
+        _ => false,
+    }
+}
+
+#[test]
+fn calls_are_read(rt: HostRuntime) -> Result<(), LexRefusal> {
+    for parts in CALL_PARTS {
+        let line = parts[0];
+        assert!(rt; line.len() < 1000);
+        let t = tokens(rt.alloc(), line, 1)?;
+        match body_line(rt.alloc(), line, &t, 1) {
+            Ok(Line::Stmt(stmt)) => assert!(rt; is_call(&stmt, parts)),
+            _ => panic!(rt; "no call"),
+        }
+    }
+    Ok(())
+}
+
+/// Whether a statement is a call of `k` without any more.
+fn is_bare_call(stmt: &Stmt) -> bool {
+    let calls = match &stmt.op {
+        Op::Call {
+            tail,
+            pre,
+            callee,
+            attrs,
+            post,
+        } => tail.is_empty()
+            && pre.is_empty()
+            && says(callee, b"k")
+            && attrs.is_empty()
+            && post.is_empty(),
+        _ => false,
+    };
+    calls
+        && stmt.result.is_none()
+        && stmt.ty == Ty::Void
+        && stmt.args.is_empty()
+        && stmt.labels.is_empty()
+}
+
+/// Whether the arguments of a call are the local `a`, the symbol `g` and -1 of 32 bits.
+fn has_arguments(stmt: &Stmt) -> bool {
+    match stmt.args.as_slice() {
+        [a, b, c] => a.ty == Ty::Int(8)
+            && b.ty == Ty::Ptr
+            && c.ty == Ty::Int(32)
+            && matches!(&a.opd, Written::Local(name) if says(name, b"a"))
+            && matches!(&b.opd, Written::Symbol(name) if says(name, b"g"))
+            && matches!(&c.opd, Written::Lit(literal) if literal.lanes.as_slice() == [Some(4294967295)].as_slice()),
+        _ => false,
+    }
+}
+
+#[test]
+fn parts_of_calls_may_be_absent(rt: HostRuntime) -> Result<(), LexRefusal> {
+    let line = b"call void @k()".as_slice();
+    let t = tokens(rt.alloc(), line, 1)?;
+    match body_line(rt.alloc(), line, &t, 1) {
+        Ok(Line::Stmt(stmt)) => assert!(rt; is_bare_call(&stmt)),
+        _ => panic!(rt; "no call"),
+    }
+    let line = b"call void @k(i8 %a, ptr nonnull @g, i32 zeroext -1)".as_slice();
+    let t = tokens(rt.alloc(), line, 1)?;
+    match body_line(rt.alloc(), line, &t, 1) {
+        Ok(Line::Stmt(stmt)) => assert!(rt; has_arguments(&stmt)),
+        _ => panic!(rt; "no call"),
     }
     Ok(())
 }

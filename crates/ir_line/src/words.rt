@@ -4,6 +4,7 @@
 //! the front is no such part.
 
 ghost use Rattle.std.specs.Prelude.{◌≡◌, bytes_eq};
+ghost use Rattle.std.specs.List.{list_all};
 ghost use Rattle.ir_lex.specs.Words.{words};
 ghost use Rattle.ir_line.specs.Words as front;
 ghost use Rattle.ir_line.specs.Words.{Gives};
@@ -60,4 +61,28 @@ pub(crate) fn behind<'a>(line: &'a [u8], tokens: &'a [Token]) -> &'a [Token]
         [] => tokens,
         [_, rest @ ..] => rest,
     }
+}
+
+/// Whether a token is no byte of 128 or above.
+fn is_ascii(word: &[u8]) -> bool
+    ensures { result ≡ front.is_ascii word.now }
+{
+    match word {
+        [] => true,
+        [first, ..] => *first < 128,
+    }
+}
+
+/// Whether all tokens are.
+pub(crate) fn all_ascii(line: &[u8], tokens: &[Token]) -> bool
+    ensures { result ≡ list_all front.is_ascii (words line.now tokens.now) }
+{
+    let mut rest = tokens;
+    'each: while let [token, after @ ..] = rest {
+        if !is_ascii(text(line, *token)) {
+            return false;
+        }
+        rest = after;
+    }
+    true
 }

@@ -3,3 +3,4 @@ pub mod Lists
 pub mod Stores
 pub mod Pointers
 pub mod Same
+pub mod Indices

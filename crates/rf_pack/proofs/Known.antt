@@ -13,10 +13,11 @@ use Rattle.ir_types.specs.declared.func.Param.{Param}
 use Rattle.ir_model.specs.declared.value.Value.{Value}
 use Rattle.ir_model.specs.declared.value.Value.TheVariants.{Lane as LaneValue, Row as RowValue, Ptr as PtrValue}
 use Rattle.ir_model.specs.Values.{Pointer, Env, pointer_of, moved, same_id, with_value}
-use Rattle.ir_model.specs.Step.{stepped}
+use Rattle.ir_model.specs.Addresses.{stepped}
 use Rattle.ir_model.specs.Run.{start_env}
 use Rattle.ir_model.specs.Fits.{ValueFits}
 use Rattle.ir_model.proofs.Pointers.{moved-moved}
+use Rattle.ir_model.proofs.Indices.{advance-low_index}
 use Rattle.vx_serial.specs.Pair.{Lead, Leads, leads_at_start, set_lead, lead_on}
 use Rattle.rf_pack.specs.Lanes.{OffsetFits}
 
@@ -45,7 +46,7 @@ lead_on-holds start (Some to) v c h =
   where
     step : (p : Pointer) → stepped 64 1 p (Some c) ≡ moved p (signed 64 c *ℤ pos 1)
     step None = refl
-    step (Some p) = refl
+    step (Some p) = ap (λ z. Some (p.0, z)) (advance-low_index p.1 c 1)
 
     on : (p : Pointer) → stepped 64 1 (moved p to.1) (Some c) ≡ moved p (advance_of to.1 c 64 1)
     on p = step (moved p to.1) ∙ moved-moved p to.1 (signed 64 c *ℤ pos 1)

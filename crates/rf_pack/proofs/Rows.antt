@@ -6,7 +6,8 @@ use Rattle.ir_model.specs.Values.{Lane, Pointer, MayStandFor, moved}
 use Rattle.ir_model.specs.Memory.{Memory, put, lane_bytes, row_bytes, stored}
 use Rattle.ir_types.specs.declared.ty.Ty.TheVariants.{Row}
 use Rattle.ir_model.specs.declared.value.Value.TheVariants.{Row as RowValue}
-use Rattle.ir_model.specs.Step.{bytes_in, memory_effect}
+use Rattle.ir_model.specs.Sizes.{bytes_in}
+use Rattle.ir_model.specs.Accesses.{memory_effect}
 use Rattle.ir_model.proofs.Lists.{put-append, put_comm, length-put, slice_get-set_same, length-lane_bytes}
 use Rattle.ir_model.proofs.Stores.{IsStored, stored-is, is-stored, set_twice}
 use Rattle.ir_model.proofs.Pointers.{next_place}

@@ -8,12 +8,13 @@ use Rattle.ir_types.specs.declared.inst.Inst.{Inst}
 use Rattle.ir_model.specs.declared.value.Value.{Value}
 use Rattle.ir_model.specs.Values.{Lane, Env, pointer_of, moved, same_id, with_value, value_of, type_of}
 use Rattle.ir_model.specs.Memory.{Memory, lane_bytes, row_bytes, stored}
-use Rattle.ir_model.specs.Step.{State, memory_effect, value_effect, result_of, after_effect, step_of}
+use Rattle.ir_model.specs.Accesses.{memory_effect, value_effect}
+use Rattle.ir_model.specs.Step.{State, result_of, after_effect, step_of}
 use Rattle.ir_model.specs.Run.{Ended, Stops, is_terminator, then_ends, run_insts}
 use Rattle.vx_serial.specs.declared.pairing.scan.LedStore.{LedStore}
 use Rattle.vx_serial.specs.Pair.{is_statement_of, is_straight, is_memory, Lead, Leads, leads_after, led_store_of, both_stored, joined_by_distance, is_lead, joined, joined_to, paired_with, paired}
 use Rattle.rf_pack.proofs.Known.{LeadHolds, Known}
-use Rattle.rf_pack.proofs.Statements.{effect_in, both_true, true_of, Plain, IsLed, led-is, quiet}
+use Rattle.rf_pack.proofs.Statements.{effect_in, both_true, true_of, Plain, IsLed, led-is}
 use Rattle.rf_pack.proofs.Mates.{lower_first, lower_second}
 use Rattle.rf_pack.proofs.Straight.{StraightFrom, Last, More, straight_from, plain_of, return-is, run_statement, HasNoPhi, straight_no_phi}
 
@@ -141,9 +142,9 @@ joined_better t start j js leads a both env m m1 k h first e = by_led (led_store
 -- ---- straight code
 
 -- what does not touch memory steps alike in two memories
-quiet_step : (t : Id → Ty) (j : Inst) (env : Env) (m : Memory) → is_memory j.op ≡ false →
+quiet_step : (t : Id → Ty) (j : Inst) (env : Env) (m : Memory) → Plain j.op j.ty j.opds → is_memory j.op ≡ false →
     step_of t j (at env m) ≡ after_effect env j.id (value_effect (result_of j.op j.ty (map (type_of t) j.opds) (map (value_of env) j.opds)) m)
-quiet_step t j env m e = ap (after_effect env j.id) (quiet (map (type_of t) j.opds) j.op j.ty (map (value_of env) j.opds) m e)
+quiet_step t j env m p e = ap (after_effect env j.id) (p.quiet e (map (type_of t) j.opds) (map (value_of env) j.opds) m)
 
 -- a store that has run, and then the code behind it, against that code with the pair joined
 pub paired_with_better : (t : Id → Ty) (start : Env) (is : List Inst) (leads : Leads) (a : LedStore) (new : List Inst) (env : Env) (m m1 : Memory) →
@@ -182,12 +183,12 @@ paired_with_better t start (j ∷ js) leads a new env m m1 h e k first =
         EndsBetter (run_insts t (j ∷ rest) (at env m)) (run_insts t (j ∷ js) (at env m1))
     by_result rest p quietly more None is =
         inl (run_statement t j js (at env m1) p.goes_on
-        ∙ ap (λ o. then_ends o (run_insts t js)) (quiet_step t j env m1 quietly ∙ ap (λ r. after_effect env j.id (value_effect r m1)) is))
+        ∙ ap (λ o. then_ends o (run_insts t js)) (quiet_step t j env m1 p quietly ∙ ap (λ r. after_effect env j.id (value_effect r m1)) is))
     by_result rest p quietly more (Some v) is =
         ⊎_elim (λ stops. inl (old ∙ stops)) (λ same. inr (new_run ∙ same ∙ sym old)) (more (with_value env j.id v) known)
       where
         stepped_to : (n : Memory) → step_of t j (at env n) ≡ Some (at (with_value env j.id v) n)
-        stepped_to n = quiet_step t j env n quietly ∙ ap (λ r. after_effect env j.id (value_effect r n)) is
+        stepped_to n = quiet_step t j env n p quietly ∙ ap (λ r. after_effect env j.id (value_effect r n)) is
 
         old : run_insts t (j ∷ js) (at env m1) ≡ run_insts t js (at (with_value env j.id v) m1)
         old = run_statement t j js (at env m1) p.goes_on ∙ ap (λ o. then_ends o (run_insts t js)) (stepped_to m1)

@@ -1,11 +1,11 @@
 -- Statements of the first forms: how they step, and what they keep.
-use Rattle.std.proofs.Common.{◌≡◌, refl, sym, subst, ℕ, Bool, true, false, not, ◌&&◌, Option, None, Some, List, [], ◌∷◌, map, nat_eq, arith}
+use Rattle.std.proofs.Common.{◌≡◌, refl, sym, subst, ℕ, Bool, true, false, not, ◌&&◌, Option, None, Some, List, [], ◌∷◌, map, cond, nat_eq, nat_le, option_map, arith}
 use Rattle.std.proofs.lemmas.Bool.Decides.{nat_tests}
 use Rattle.vx_num.specs.declared.operations.BinOp.TheVariants.{Add}
 use Rattle.vx_num.specs.declared.operations.Flags.{Flags}
 use Rattle.ir_types.specs.declared.id.Id.{Id}
 use Rattle.ir_types.specs.declared.ty.Elem.{Elem}
-use Rattle.ir_model.specs.declared.value.Value.TheVariants.{Ptr as PtrValue}
+use Rattle.ir_model.specs.declared.value.Value.TheVariants.{Lane as LaneValue, Ptr as PtrValue}
 use Rattle.ir_types.specs.declared.ty.Ty.{Ty}
 use Rattle.ir_types.specs.declared.ty.Ty.TheVariants.{Void, Int, Ptr, Row}
 use Rattle.ir_types.specs.declared.ty.Elem.TheVariants.{One, Array}
@@ -16,8 +16,11 @@ use Rattle.ir_types.specs.declared.op.Op.{Op}
 use Rattle.ir_types.specs.declared.op.Op.TheVariants.{Bin, Gep, Load, Store}
 use Rattle.ir_model.specs.declared.value.Value.{Value}
 use Rattle.ir_model.specs.Values.{Lane, Env, Pointer, pointer_of, with_value, value_of, type_of}
-use Rattle.ir_model.specs.Memory.{Memory, lane_bytes, stored}
-use Rattle.ir_model.specs.Step.{State, Effect, memory_effect, value_effect, store_effect, result_of, bytes_of, effect_of, stepped, after_effect}
+use Rattle.ir_model.specs.Memory.{Memory, lane_bytes, lane_from, stored, loaded}
+use Rattle.ir_model.specs.Sizes.{bytes_in}
+use Rattle.ir_model.specs.Addresses.{stepped}
+use Rattle.ir_model.specs.Accesses.{Effect, memory_effect, value_effect, store_effect, bytes_of}
+use Rattle.ir_model.specs.Step.{State, result_of, effect_of, after_effect}
 use Rattle.ir_model.specs.Run.{is_terminator, is_phi}
 use Rattle.vx_serial.specs.declared.pairing.scan.LedStore.{LedStore}
 use Rattle.vx_serial.specs.Pair.{is_int, is_ptr, is_byte, is_number, is_local, is_plain, is_operand, is_literal, is_statement_of, is_memory, Lead, Leads, set_lead, lead_on, leads_by, led_store, led_store_by}
@@ -46,6 +49,8 @@ pub record Plain (op : Op) (ty : Ty) (opds : List Opd) : Type 0 where
   -- what is known of pointers stays known
   pub known : (t : Id → Ty) (start : Env) (leads : Leads) (id : Id) (env : Env) (m : Memory) (s : State) →
       Known start leads env → after_effect env id (effect_in t op ty opds env m) ≡ Some s → Known start (leads_by leads id op opds) s.env
+  -- and what it does depends on no memory, unless it is a load or a store
+  pub quiet : is_memory op ≡ false → (types : List Ty) (vs : List Value) (m : Memory) → effect_of op ty types vs m ≡ value_effect (result_of op ty types vs) m
 
 -- a result that leads nowhere
 pub known_nowhere : (start : Env) (leads : Leads) (id : Id) (env : Env) (r : Option Value) (m : Memory) (s : State) →
@@ -67,12 +72,21 @@ known_store start leads id env align (Some bytes) p m s k e = by_memory (stored 
     by_memory None e = absurd cc
     by_memory (Some n) e = let same : record { env = env; memory = n } ≡ s = cc in subst (λ (u : State). Known start leads u.env) same k
 
+-- a form of a width leads nowhere
+known_narrow : (start : Env) (leads : Leads) (id : Id) (env : Env) (b : Bool) (r : Option Value) (m : Memory) (s : State) →
+    Known start leads env → after_effect env id (cond b (value_effect r m) None) ≡ Some s → Known start (set_lead leads id None) s.env
+known_narrow start leads id env true r m s k e = known_nowhere start leads id env r m s k e
+known_narrow start leads id env false r m s k e = absurd cc
+
 plain_load : (align : ℕ) (ty : Ty) (p : Opd) → is_int 32 ty ≡ true → Plain (Load align) ty (p ∷ [])
 plain_load align (Int w) p h = record {
+  quiet = λ h types vs m. absurd (true_of (sym h));
   goes_on = refl;
   no_phi = refl;
   untyped = λ t u env m. refl;
-  known = λ t start leads id env m s k e. known_nowhere start leads id env _ m s k e;
+  known = λ t start leads id env m s k e.
+      known_narrow start leads id env (nat_le w 64)
+      (option_map (λ bytes. LaneValue (lane_from (bytes_in w) bytes)) (loaded (bytes_in w) align (pointer_of (value_of env p)) m)) m s k e;
 }
 plain_load align Void p h = absurd cc
 plain_load align Ptr p h = absurd cc
@@ -80,6 +94,7 @@ plain_load align (Row n w) p h = absurd cc
 
 plain_add : (flags : Flags) (ty : Ty) (a b : Opd) → is_int 32 ty ≡ true → Plain (Bin Add flags) ty (a ∷ b ∷ [])
 plain_add flags (Int w) a b h = record {
+  quiet = λ h types vs m. refl;
   goes_on = refl;
   no_phi = refl;
   untyped = λ t u env m. refl;
@@ -91,6 +106,7 @@ plain_add flags (Row n w) a b h = absurd cc
 
 plain_store : (align : ℕ) (ty : Ty) (v p : Opd) → Plain (Store align) ty (v ∷ p ∷ [])
 plain_store align ty v p = record {
+  quiet = λ h types vs m. absurd (true_of (sym h));
   goes_on = refl;
   no_phi = refl;
   untyped = λ t u env m. refl;
@@ -110,6 +126,7 @@ plain_step elem inbounds ty p l of_ptr of_bytes plainly of_64 number = by_shape 
         subst (λ (n : ℕ). Plain (Gep (One (Int n)) false) Ptr (Val p ∷ Lit (record { ty = Int w; lanes = Some c ∷ [] }) ∷ [])) (sym e8)
         (subst (λ (n : ℕ). Plain (Gep (One (Int 8)) false) Ptr (Val p ∷ Lit (record { ty = Int n; lanes = Some c ∷ [] }) ∷ [])) (sym w64)
         (record {
+          quiet = λ h types vs m. refl;
           goes_on = refl;
           no_phi = refl;
           untyped = λ t u env m. refl;
@@ -200,10 +217,3 @@ led-is leads (Store align) (Int w) (Lit l ∷ Val p ∷ []) a h e =
     wide : nat_eq w 32 ≡ true → w ≡ 32
     wide e = grind (arith, nat_tests)
 led-is leads op ty opds a h e = absurd (none_of a e)
-
--- what does not touch memory
-pub quiet : (types : List Ty) (op : Op) (ty : Ty) (vs : List Value) (m : Memory) → is_memory op ≡ false →
-    effect_of op ty types vs m ≡ value_effect (result_of op ty types vs) m
-quiet types (Load align) ty vs m h = absurd (true_of (sym h))
-quiet types (Store align) ty vs m h = absurd (true_of (sym h))
-quiet types op ty vs m h = refl

@@ -8,7 +8,9 @@ use Rattle.ir_model.specs.declared.value.Value.{Value}
 use Rattle.ir_model.specs.declared.value.Value.TheVariants.{Lane as LaneValue, Ptr as PtrValue}
 use Rattle.ir_model.specs.Values.{Lane, Pointer, moved}
 use Rattle.ir_model.specs.Memory.{Memory}
-use Rattle.ir_model.specs.Step.{Effect, bytes_in, effect_of}
+use Rattle.ir_model.specs.Sizes.{bytes_in}
+use Rattle.ir_model.specs.Accesses.{Effect}
+use Rattle.ir_model.specs.Step.{effect_of}
 
 -- a pointer's offset has 64 bits
 abbrev pub OffsetFits : Pointer → Type 0

@@ -1,0 +1,10 @@
+-- The arguments found and those of the rest are those of all.
+use Rattle.std.proofs.Common.{◌≡◌, length}
+use Rattle.ir_line.specs.Calls.{arguments_within, with_arguments}
+use Rattle.ir_line.proofs.calls.arguments_within.Given as goal
+
+abbrev pub invariant-each : goal.invariant-each
+invariant-each l = with_arguments l.found (arguments_within l.bound l.line l.rest) ≡ arguments_within l.tokens l.line l.tokens
+
+abbrev pub decreases-each : goal.decreases-each
+decreases-each l = length l.bound
