@@ -4,12 +4,11 @@ use Rattle.ir_lex.specs.declared.list.Token.{Token}
 use Rattle.ir_lex.specs.declared.refusal.LexRefusal.TheVariants as lexical
 use Rattle.ir_lex.specs.Faults.{FirstFault, IsRefusal}
 use Rattle.ir_lex.specs.Tokens.{Lexed}
-use Rattle.ir_lex.specs.Words.{words}
 use Rattle.ir_lex.specs.Scan.{fault_of, cut}
 use Rattle.ir_lex.proofs.Laws.{lexed_is, fault_some}
 use Rattle.ir_line.specs.declared.line.Line.{Line}
-use Rattle.ir_line.specs.Words.{Words}
-use Rattle.ir_line.specs.Body.{SpellsBody, read_body}
+use Rattle.ir_line.specs.Body as inside
+use Rattle.ir_line.specs.Body.{read_body}
 use Rattle.ir_line.specs.Outside as outside
 use Rattle.ir_line.specs.Outside.{read_outside}
 use Rattle.ir_line.proofs.BodyLines.{body_spelled}
@@ -22,11 +21,11 @@ use Rattle.ir_read.specs.Forms.{form_by, form_in, sound_form, inside_after}
 use Rattle.ir_read.specs.Outlook.{with_line, line_seen}
 
 -- where nothing is spelled, nothing is read
-pub unread_inside : (ws : Words) → ((l : Line) → SpellsBody ws l → Some l ≡ None) → None ≡ read_body ws
-unread_inside ws none = here (read_body ws) refl where
-  here : (found : Option Line) → read_body ws ≡ found → None ≡ found
+pub unread_inside : (line : List ℕ) (ts : List Token) → ((l : Line) → inside.Spells line ts l → Some l ≡ None) → None ≡ read_body line ts
+unread_inside line ts none = here (read_body line ts) refl where
+  here : (found : Option Line) → read_body line ts ≡ found → None ≡ found
   here None e = refl
-  here (Some l) e = let absent : Some l ≡ None = none l (body_spelled ws l e) in cc
+  here (Some l) e = let absent : Some l ≡ None = none l (body_spelled line ts l e) in cc
 
 pub unread_outside : (line : List ℕ) (ts : List Token) → ((l : Line) → outside.Spells line ts l → Some l ≡ None) → None ≡ read_outside line ts
 unread_outside line ts none = here (read_outside line ts) refl where

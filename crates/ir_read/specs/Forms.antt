@@ -5,7 +5,6 @@
 use Rattle.std.specs.Prelude.{◌≡◌, ℕ, Bool, true, false, cond, Option, None, Some, List, [], ◌∷◌}
 use Rattle.ir_lex.specs.declared.list.Token.{Token}
 use Rattle.ir_lex.specs.Scan.{fault_of, cut}
-use Rattle.ir_lex.specs.Words.{words}
 use Rattle.ir_line.specs.declared.line.Line.{Line}
 use Rattle.ir_line.specs.declared.line.Line.TheVariants.{Empty, Kept, Define, Close, Label, Stmt, Case, CasesEnd}
 use Rattle.ir_line.specs.Body.{read_body}
@@ -13,7 +12,7 @@ use Rattle.ir_line.specs.Outside.{read_outside}
 
 -- the form of a line with these tokens, inside a function or outside
 unfoldable pub form_by : Bool → List ℕ → List Token → Option Line
-form_by inside line ts = cond inside (read_body (words line ts)) (read_outside line ts)
+form_by inside line ts = cond inside (read_body line ts) (read_outside line ts)
 
 -- the form of a line that has no lexical fault; one that has a fault has no form
 abbrev pub sound_form : Option ℕ → Bool → List ℕ → Option Line

@@ -4,7 +4,6 @@
 
 ghost use Rattle.std.specs.Prelude.{◌≡◌, ◌+◌, ◌<◌, ◌^◌, length, IfOk};
 ghost use Rattle.ir_lex.specs.Tokens.{Lexed};
-ghost use Rattle.ir_lex.specs.Words.{words};
 ghost use Rattle.ir_line.specs.Body.{read_body};
 ghost use Rattle.ir_line.specs.Outside.{read_outside};
 ghost use Rattle.ir_read.specs.Forms as forms;
@@ -21,7 +20,7 @@ fn form_inside(
     number: u32,
 ) -> Result<Option<Line>, AllocError>
     requires { Lexed line.now t.now }
-    ensures { IfOk result (λ form. form ≡ read_body (words line.now t.now)) }
+    ensures { IfOk result (λ form. form ≡ read_body line.now t.now) }
 {
     match body_line(alloc, line, t, number) {
         Ok(form) => Ok(Some(form)),
