@@ -1,5 +1,5 @@
 -- A refusal of the first part is one of the whole.
-use Rattle.std.proofs.Common.{◌≡◌, Result, Ok, Err, refl, ap}
+use Rattle.std.proofs.Common.{Result, ap}
 use Rattle.ir_read.specs.declared.refusal.ReadRefusal.{ReadRefusal}
 use Rattle.ir_read.specs.declared.refusal.ReadRefusal.TheVariants.{OutOfMemory, Lex, NotALine, Misplaced, Limit}
 use Rattle.ir_read.specs.Answers.{◌>>=◌, Refuses}

@@ -1,5 +1,5 @@
 -- What the readers of a line answer is its form.
-use Rattle.std.proofs.Common.{◌≡◌, ℕ, ◌+◌, Bool, true, false, List, Option, None, Some, Result, Ok, Err, refl, sym, ◌∙◌, ap}
+use Rattle.std.proofs.Common.{◌≡◌, ℕ, Bool, List, Option, None, Some, Ok, Err, refl, sym, ◌∙◌, ap}
 use Rattle.ir_lex.specs.declared.list.Token.{Token}
 use Rattle.ir_lex.specs.declared.refusal.LexRefusal.TheVariants as lexical
 use Rattle.ir_lex.specs.Faults.{FirstFault, IsRefusal}

@@ -1,9 +1,9 @@
 -- The list of names, kept as the keys of a set.
-use Rattle.std.proofs.Common.{◌≡◌, ℕ, Bool, true, false, cond, ◌||◌, List, [], ◌∷◌, ◌++◌, map, refl, ap, sym, ◌∙◌, Vec, Global, if◌then◌else◌}
+use Rattle.std.proofs.Common.{◌≡◌, ℕ, Bool, true, false, cond, ◌||◌, List, [], ◌∷◌, ◌++◌, map, refl, ap, ◌∙◌, Vec, Global, if◌then◌else◌}
 use Rattle.std.specs.List.{list_any}
 use Rattle.std.specs.Str.{bytes_eq}
 use Rattle.indexmap.specs.IndexSet.{insert_key}
-use Rattle.ir_read.specs.Outlook.{has, with_name}
+use Rattle.ir_read.specs.Outlook.{with_name}
 
 -- a name as contracts see it
 abbrev pub named : Vec ℕ Global → List ℕ

@@ -1,7 +1,7 @@
 -- The first line of a text, by the number of bytes before its first line feed.
-use Rattle.std.proofs.Common.{◌≡◌, ℕ, suc, zero, ◌+◌, ◌-◌, ◌<◌, ◌≤◌, ◌==◌, Bool, true, false, ◌&&◌, cond, List, [], ◌∷◌, length, get_or, take, drop, refl, ap, sym, ◌∙◌, arith}
+use Rattle.std.proofs.Common.{◌≡◌, ℕ, suc, ◌+◌, ◌-◌, ◌<◌, ◌≤◌, ◌==◌, Bool, true, false, ◌&&◌, cond, List, [], ◌∷◌, length, get_or, take, drop, refl, ap, sym, ◌∙◌, arith}
 use Rattle.std.proofs.lemmas.List.{take_rest}
-use Rattle.ir_read.specs.Lines.{lines_of, begins_feed, onto, line_len, without_return}
+use Rattle.ir_read.specs.Lines.{lines_of, onto, line_len, without_return}
 
 -- a text with a line feed: its first line stands before that
 abbrev pub IsSplit : List ℕ → Type 0

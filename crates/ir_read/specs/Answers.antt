@@ -1,5 +1,5 @@
 -- How readers answer, by what their definitions give: the same value, or the same refusal. Want of memory is free.
-use Rattle.std.specs.Prelude.{◌≡◌, Result, Ok, Err, Option, None, Some}
+use Rattle.std.specs.Prelude.{◌≡◌, Result, Ok, Err}
 use Rattle.ir_read.specs.declared.refusal.ReadRefusal.{ReadRefusal}
 use Rattle.ir_read.specs.declared.refusal.ReadRefusal.TheVariants.{OutOfMemory, Lex, NotALine, Misplaced, Limit}
 

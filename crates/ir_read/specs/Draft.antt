@@ -6,12 +6,11 @@
 --
 -- Empty lines, which are those without a token, are dropped, also from the bodies of functions. `Examples` has small texts and what
 -- they are.
-use Rattle.std.specs.Prelude.{◌≡◌, ℕ, ◌+◌, Bool, true, false, cond, Option, None, Some, Result, Ok, Err, List, [], ◌∷◌, ◌++◌}
+use Rattle.std.specs.Prelude.{ℕ, ◌+◌, Bool, cond, Option, None, Some, Result, Ok, Err, List, [], ◌∷◌, ◌++◌}
 use Rattle.ir_line.specs.declared.line.Line.{Line}
 use Rattle.ir_line.specs.declared.line.Line.TheVariants as line
 use Rattle.ir_line.specs.declared.head.Head.{Head}
 use Rattle.ir_line.specs.declared.draft.Draft.{Draft}
-use Rattle.ir_line.specs.declared.draft.DraftItem.{DraftItem}
 use Rattle.ir_line.specs.declared.draft.DraftItem.TheVariants.{Kept as KeptItem, Func}
 use Rattle.ir_line.specs.declared.kept.Kept.{Kept}
 use Rattle.ir_read.specs.declared.outlook.Outlook.{Outlook}

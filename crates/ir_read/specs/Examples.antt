@@ -1,5 +1,5 @@
 -- Small texts and what they are, computed by the definitions.
-use Rattle.std.specs.Prelude.{◌≡◌, refl, codes, Option, None, Some, Result, Ok, Err, [], ◌∷◌}
+use Rattle.std.specs.Prelude.{◌≡◌, refl, codes, None, Ok, Err, [], ◌∷◌}
 use Rattle.ir_lex.specs.Bytes.{is_blank, is_sigil, is_mark, is_word_byte, is_control, begins_name}
 use Rattle.ir_lex.specs.Scan.{cut, more_len, name_len}
 use Rattle.ir_lex.specs.Words.{word}

@@ -1,5 +1,5 @@
 -- The first lexical fault of a text.
-use Rattle.std.specs.Prelude.{◌≡◌, ℕ, ◌+◌, Result, Ok, Err, Option, None, Some, List, [], ◌∷◌}
+use Rattle.std.specs.Prelude.{ℕ, ◌+◌, Result, Ok, Err, Option, None, Some, List, [], ◌∷◌}
 use Rattle.ir_lex.specs.Scan.{fault_of}
 use Rattle.ir_read.specs.declared.refusal.ReadRefusal.{ReadRefusal}
 use Rattle.ir_read.specs.declared.refusal.ReadRefusal.TheVariants.{Lex}

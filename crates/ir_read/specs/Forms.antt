@@ -2,7 +2,7 @@
 --
 -- A `define` line that ends with a brace starts a function, which ends at the next line whose only token is `}`. Lines of a function
 -- are read as those inside one, all others as lines of the module.
-use Rattle.std.specs.Prelude.{◌≡◌, ℕ, Bool, true, false, cond, Option, None, Some, List, [], ◌∷◌}
+use Rattle.std.specs.Prelude.{ℕ, Bool, true, false, cond, Option, None, Some, List, [], ◌∷◌}
 use Rattle.ir_lex.specs.declared.list.Token.{Token}
 use Rattle.ir_lex.specs.Scan.{fault_of, cut}
 use Rattle.ir_line.specs.declared.line.Line.{Line}

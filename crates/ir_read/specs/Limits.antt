@@ -1,6 +1,6 @@
 -- The limits of a module: 100,000 instructions, 65,536 values a function, which are its parameters and instructions, and 4,096
 -- blocks a function. Phis and terminators count, and a `switch` with its lines is one instruction.
-use Rattle.std.specs.Prelude.{◌≡◌, ℕ, ◌+◌, ◌*◌, Bool, cond, Option, None, Some, Result, Ok, Err, nat_lt, length, max}
+use Rattle.std.specs.Prelude.{◌+◌, cond, Option, None, Some, nat_lt, length, max}
 use Rattle.ir_read.specs.declared.size.Size.{Size}
 use Rattle.ir_read.specs.declared.open_function.OpenFunction.{OpenFunction as Open}
 use Rattle.ir_read.specs.declared.refusal.Limit.{Limit}

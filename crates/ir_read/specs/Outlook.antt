@@ -1,7 +1,7 @@
 -- What is taken from the whole text before its lines are judged: the names that no operand may be, and the pointers of the layout.
 --
 -- No operand may name a function, which is one that a `define` line or a `declare` line names, or a symbol that is no global.
-use Rattle.std.specs.Prelude.{◌≡◌, ℕ, Bool, true, false, ◌||◌, cond, Option, None, Some, Result, List, [], ◌∷◌, ◌++◌, bytes_eq}
+use Rattle.std.specs.Prelude.{ℕ, Bool, false, ◌||◌, cond, Option, None, Some, Result, List, [], ◌∷◌, ◌++◌, bytes_eq}
 use Rattle.std.specs.List.{list_any}
 use Rattle.ir_line.specs.declared.line.Line.{Line}
 use Rattle.ir_line.specs.declared.line.Line.TheVariants as line

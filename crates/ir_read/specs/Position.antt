@@ -2,7 +2,7 @@
 --
 -- A block begins at its label; where none is open, an instruction begins an unnamed block. Its phis come first, and its terminator
 -- ends it. The lines of a `switch` are its cases, up to `]`.
-use Rattle.std.specs.Prelude.{◌≡◌, ℕ, ◌+◌, Bool, true, false, not, ◌&&◌, cond, Option, None, Some, Result, Ok, Err, List, [], ◌∷◌, nat_eq}
+use Rattle.std.specs.Prelude.{ℕ, ◌+◌, Bool, true, false, not, ◌&&◌, cond, Result, Ok, Err, List, nat_eq}
 use Rattle.ir_types.specs.declared.op.Op.{Op}
 use Rattle.ir_types.specs.declared.op.Op.TheVariants.{Bin, Icmp, Cast, Select, Extract, Insert, Shuffle, Gep, Load, Store, Alloca, Phi, Ret, Br, CondBr, Switch, Unreachable, Call}
 use Rattle.ir_line.specs.declared.stmt.Stmt.{Stmt}

@@ -1,5 +1,5 @@
 -- The line stands before the feed, and what follows behind it.
-use Rattle.std.proofs.Common.{◌≡◌, ◌≤◌, ◌∙◌, length, take, arith, rules}
+use Rattle.std.proofs.Common.{◌≤◌, length, take, arith, rules}
 use Rattle.ir_read.proofs.Splitting.{cut_at, last_line, shorter}
 use Rattle.ir_read.proofs.lines.first_line.Goals as goal
 

@@ -1,5 +1,5 @@
 -- The count so far, with what the bytes that are left have, is the whole.
-use Rattle.std.proofs.Common.{◌≡◌, ◌+◌, ◌≤◌, length, drop}
+use Rattle.std.proofs.Common.{◌≡◌, ◌+◌, drop}
 use Rattle.ir_read.specs.Lines.{line_len}
 use Rattle.ir_read.proofs.lines.line_len.Given as goal
 

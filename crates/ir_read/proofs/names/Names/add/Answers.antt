@@ -1,6 +1,5 @@
 -- A new name goes last.
-use Rattle.std.proofs.Common.{◌≡◌, List, ℕ, map, ◌∙◌, ap, refl}
-use Rattle.ir_read.specs.Outlook.{with_name}
+use Rattle.std.proofs.Common.{◌≡◌, map, ◌∙◌, ap, refl}
 use Rattle.ir_read.proofs.Named.{added, named}
 use Rattle.ir_read.proofs.names.Names.add.Goals as goal
 
