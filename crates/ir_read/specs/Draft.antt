@@ -53,12 +53,7 @@ closed done o = record { items = done.items ++ Func o.line o.head o.body ∷ [];
 abbrev pub placed : Done → Open → ℕ → Line → Position → Progress
 placed done o n line.Empty p = going_on done o
 placed done o n line.Close p = between (closed done o)
-placed done o n (line.Label name) p = going_on done (with_line o n (line.Label name) p)
-placed done o n (line.Stmt stmt) p = going_on done (with_line o n (line.Stmt stmt) p)
-placed done o n (line.Case value label) p = going_on done (with_line o n (line.Case value label) p)
-placed done o n line.CasesEnd p = going_on done (with_line o n line.CasesEnd p)
-placed done o n (line.Kept kept) p = going_on done (with_line o n (line.Kept kept) p)
-placed done o n (line.Define name head) p = going_on done (with_line o n (line.Define name head) p)
+placed done o n form p = going_on done (with_line o n form p)
 
 -- the line n of this form, inside the open function
 unfoldable pub line_inside : Outlook → ℕ → Done → Open → Line → Result Progress ReadRefusal
@@ -73,12 +68,7 @@ abbrev pub line_outside : Outlook → ℕ → Done → Line → Result Progress 
 line_outside known n done line.Empty = Ok (between done)
 line_outside known n done (line.Kept kept) = Ok (between (with_kept done n kept))
 line_outside known n done (line.Define name (Some head)) = header_line known n done head
-line_outside known n done (line.Define name None) = Err (NotALine n)
-line_outside known n done line.Close = Err (NotALine n)
-line_outside known n done (line.Label name) = Err (NotALine n)
-line_outside known n done (line.Stmt stmt) = Err (NotALine n)
-line_outside known n done (line.Case value label) = Err (NotALine n)
-line_outside known n done line.CasesEnd = Err (NotALine n)
+line_outside known n done _ = Err (NotALine n)
 
 abbrev pub line_at : Outlook → ℕ → Done → Option Open → Line → Result Progress ReadRefusal
 line_at known n done None form = line_outside known n done form

@@ -32,7 +32,7 @@ unfolding form_in form_by read_outside cut more_len is_blank is_sigil is_mark is
 hello = refl
 
 -- a lexical fault behind it comes first
-fault_first : draft_of (codes "hello\n \x01") ≡ Err (Lex 2 2)
+fault_first : draft_of (codes "hello\n \u{1}") ≡ Err (Lex 2 2)
 unfolding is_control
 fault_first = refl
 
@@ -44,7 +44,7 @@ cut_off = refl
 -- a function of one block
 one_block : draft_of (codes "define void @a() {\n  ret void\n}\n") ≡ Ok (record {
   items = Func 1 (record { before = []; ret = Void; name = codes "a"; params = []; after = [] })
-      (record { line = 2; form = Stmt (record { result = None; ty = Void; op = Ret; args = []; labels = [] }) } ∷ []) ∷ []
+      (record { line = 2; form = Stmt (record { result = None; ty = Void; op = Ret; args = []; labels = [] }) } ∷ []) ∷ [];
 })
 unfolding form_in form_by read_outside cut more_len name_len is_blank is_sigil is_mark is_word_byte is_control begins_name keeps_mark keeps_word word symbol_of local_of act_of labelled_at header head_of ret_of params_at read_body read_form form plain_line act_line by_act returns header_line opened_by line_inside after_inst after_stmt opened at_close closed with_line with_function passed
 one_block = refl

@@ -6,7 +6,7 @@ use Rattle.std.specs.Prelude.{ℕ, Bool, true, false, cond, Option, None, Some, 
 use Rattle.ir_lex.specs.declared.list.Token.{Token}
 use Rattle.ir_lex.specs.Scan.{fault_of, cut}
 use Rattle.ir_line.specs.declared.line.Line.{Line}
-use Rattle.ir_line.specs.declared.line.Line.TheVariants.{Empty, Kept, Define, Close, Label, Stmt, Case, CasesEnd}
+use Rattle.ir_line.specs.declared.line.Line.TheVariants.{Define, Close}
 use Rattle.ir_line.specs.Body.{read_body}
 use Rattle.ir_line.specs.Outside.{read_outside}
 
@@ -24,15 +24,9 @@ form_in inside line = sound_form (fault_of line) inside line
 
 -- whether the next line stands in a function
 abbrev pub inside_after : Bool → Option Line → Bool
-inside_after inside None = inside
 inside_after inside (Some (Define name head)) = true
 inside_after inside (Some Close) = false
-inside_after inside (Some Empty) = inside
-inside_after inside (Some (Kept kept)) = inside
-inside_after inside (Some (Label name)) = inside
-inside_after inside (Some (Stmt stmt)) = inside
-inside_after inside (Some (Case value label)) = inside
-inside_after inside (Some CasesEnd) = inside
+inside_after inside _ = inside
 
 -- the forms of some lines in order
 abbrev pub forms_from : Bool → List (List ℕ) → List (Option Line)

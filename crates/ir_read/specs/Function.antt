@@ -1,9 +1,9 @@
 -- The lines of a function: which are outside the profile, and what each makes of the function that is open.
 use Rattle.std.specs.Prelude.{ℕ, Bool, true, false, not, ◌||◌, cond, Result, Ok, Err, List, [], ◌∷◌, ◌++◌}
 use Rattle.ir_types.specs.declared.op.Op.{Op}
-use Rattle.ir_types.specs.declared.op.Op.TheVariants.{Bin, Icmp, Cast, Select, Extract, Insert, Shuffle, Gep, Load, Store, Alloca, Phi, Ret, Br, CondBr, Switch, Unreachable, Call}
+use Rattle.ir_types.specs.declared.op.Op.TheVariants.{Alloca, Call}
 use Rattle.ir_line.specs.declared.written.Written.{Written}
-use Rattle.ir_line.specs.declared.written.Written.TheVariants.{Local, Symbol, Lit}
+use Rattle.ir_line.specs.declared.written.Written.TheVariants.{Symbol}
 use Rattle.ir_line.specs.declared.written.Arg.{Arg}
 use Rattle.ir_line.specs.declared.stmt.Stmt.{Stmt}
 use Rattle.ir_line.specs.declared.head.Head.{Head}
@@ -20,34 +20,19 @@ use Rattle.ir_read.specs.Position.{in_first, start, after_label, after_stmt, aft
 
 -- whether an operand is one of these names
 abbrev pub is_barred : List (List ℕ) → Written → Bool
-is_barred names (Local name) = false
 is_barred names (Symbol name) = has names name
-is_barred names (Lit literal) = false
+is_barred names _ = false
 
+-- whether one of these operands is
 abbrev pub any_barred : List (List ℕ) → List Arg → Bool
 any_barred names [] = false
 any_barred names (a ∷ args) = is_barred names a.opd || any_barred names args
 
 -- whether an operation is outside the profile: an `alloca` outside the first block, or a call
 abbrev pub is_foreign : Position → Op → Bool
-is_foreign p (Bin op flags) = false
-is_foreign p (Icmp pred) = false
-is_foreign p (Cast op nneg) = false
-is_foreign p Select = false
-is_foreign p Extract = false
-is_foreign p Insert = false
-is_foreign p (Shuffle mask) = false
-is_foreign p (Gep elem inbounds) = false
-is_foreign p (Load align) = false
-is_foreign p (Store align) = false
 is_foreign p (Alloca elem align) = not (in_first p)
-is_foreign p (Phi blocks) = false
-is_foreign p Ret = false
-is_foreign p (Br to) = false
-is_foreign p (CondBr taken other) = false
-is_foreign p (Switch default cases to) = false
-is_foreign p Unreachable = false
 is_foreign p (Call tail pre callee attrs post) = true
+is_foreign p _ = false
 
 -- whether an instruction is outside the profile
 abbrev pub is_outside : List (List ℕ) → Position → Stmt → Bool
@@ -65,8 +50,7 @@ after_line names n p (line.Stmt stmt) = after_inst names n p stmt
 after_line names n p (line.Case value label) = after_case n p
 after_line names n p line.CasesEnd = after_cases n p
 after_line names n p line.Close = at_close n p
-after_line names n p (line.Kept kept) = Err (NotALine n)
-after_line names n p (line.Define name head) = Err (NotALine n)
+after_line names n p _ = Err (NotALine n)
 
 -- the function that a header in the line n opens
 unfoldable pub opened_by : ℕ → Head → Result Open ReadRefusal

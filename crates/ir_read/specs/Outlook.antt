@@ -35,27 +35,14 @@ headed (Some head) = Some head.name
 
 -- the names with those that a line of this form gives
 abbrev pub with_form : List (List ℕ) → Option Line → List (List ℕ)
-with_form names None = names
 with_form names (Some (line.Kept kept)) = with_some (with_some names kept.declared) (indirect kept)
 with_form names (Some (line.Define name head)) = with_some (with_some names name) (headed head)
-with_form names (Some line.Empty) = names
-with_form names (Some line.Close) = names
-with_form names (Some (line.Label name)) = names
-with_form names (Some (line.Stmt stmt)) = names
-with_form names (Some (line.Case value label)) = names
-with_form names (Some line.CasesEnd) = names
+with_form names _ = names
 
 -- whether a line of this form is of a layout with pointers that have not 64 bits
 abbrev pub gives_pointers : Option Line → Bool
-gives_pointers None = false
 gives_pointers (Some (line.Kept kept)) = kept.other_pointers
-gives_pointers (Some (line.Define name head)) = false
-gives_pointers (Some line.Empty) = false
-gives_pointers (Some line.Close) = false
-gives_pointers (Some (line.Label name)) = false
-gives_pointers (Some (line.Stmt stmt)) = false
-gives_pointers (Some (line.Case value label)) = false
-gives_pointers (Some line.CasesEnd) = false
+gives_pointers _ = false
 
 abbrev pub nothing_seen : Outlook
 nothing_seen = record { names = []; other_pointers = false }

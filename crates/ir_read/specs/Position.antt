@@ -4,7 +4,8 @@
 -- ends it. The lines of a `switch` are its cases, up to `]`.
 use Rattle.std.specs.Prelude.{ℕ, ◌+◌, Bool, true, false, not, ◌&&◌, cond, Result, Ok, Err, List, nat_eq}
 use Rattle.ir_types.specs.declared.op.Op.{Op}
-use Rattle.ir_types.specs.declared.op.Op.TheVariants.{Bin, Icmp, Cast, Select, Extract, Insert, Shuffle, Gep, Load, Store, Alloca, Phi, Ret, Br, CondBr, Switch, Unreachable, Call}
+use Rattle.ir_types.specs.declared.op.Op.TheVariants.{Phi, Ret, Br, CondBr, Switch, Unreachable}
+use Rattle.ir_types.specs.Formed.{is_phi}
 use Rattle.ir_line.specs.declared.stmt.Stmt.{Stmt}
 use Rattle.ir_read.specs.declared.position.Position.{Position}
 use Rattle.ir_read.specs.declared.position.Spot.{Spot}
@@ -17,64 +18,28 @@ use Rattle.ir_read.specs.Numbers.{after_name, after_result}
 -- whether no block is open
 abbrev pub is_between : Spot → Bool
 is_between Between = true
-is_between Front = false
-is_between Behind = false
-is_between Cases = false
+is_between _ = false
 
 -- whether a switch is open
 abbrev pub is_cases : Spot → Bool
-is_cases Between = false
-is_cases Front = false
-is_cases Behind = false
 is_cases Cases = true
-
-abbrev pub is_phi : Op → Bool
-is_phi (Bin op flags) = false
-is_phi (Icmp pred) = false
-is_phi (Cast op nneg) = false
-is_phi Select = false
-is_phi Extract = false
-is_phi Insert = false
-is_phi (Shuffle mask) = false
-is_phi (Gep elem inbounds) = false
-is_phi (Load align) = false
-is_phi (Store align) = false
-is_phi (Alloca elem align) = false
-is_phi (Phi blocks) = true
-is_phi Ret = false
-is_phi (Br to) = false
-is_phi (CondBr taken other) = false
-is_phi (Switch default cases to) = false
-is_phi Unreachable = false
-is_phi (Call tail pre callee attrs post) = false
+is_cases _ = false
 
 -- whether an instruction may stand here: none among the cases of a switch, and a phi behind phis alone
 abbrev pub may_stand : Spot → Op → Bool
-may_stand Between op = true
-may_stand Front op = true
 may_stand Behind op = not (is_phi op)
 may_stand Cases op = false
+may_stand _ op = true
 
 -- what is open behind an instruction
 abbrev pub spot_after : Op → Spot
-spot_after (Bin op flags) = Behind
-spot_after (Icmp pred) = Behind
-spot_after (Cast op nneg) = Behind
-spot_after Select = Behind
-spot_after Extract = Behind
-spot_after Insert = Behind
-spot_after (Shuffle mask) = Behind
-spot_after (Gep elem inbounds) = Behind
-spot_after (Load align) = Behind
-spot_after (Store align) = Behind
-spot_after (Alloca elem align) = Behind
 spot_after (Phi blocks) = Front
 spot_after Ret = Between
 spot_after (Br to) = Between
 spot_after (CondBr taken other) = Between
 spot_after (Switch default cases to) = Cases
 spot_after Unreachable = Between
-spot_after (Call tail pre callee attrs post) = Behind
+spot_after _ = Behind
 
 -- before the first line, where `next` is the next number
 abbrev pub start : ℕ → Position

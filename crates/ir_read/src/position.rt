@@ -4,6 +4,7 @@
 //! what is open, so nothing here takes memory; a count that would pass its last value is answered as want of it.
 
 ghost use Rattle.std.specs.Prelude.{◌≡◌, ◌+◌, Some, IfOk};
+ghost use Rattle.ir_types.specs.Formed as formed;
 ghost use Rattle.ir_read.specs.Answers.{Gives};
 ghost use Rattle.ir_read.specs.Position as position;
 
@@ -70,7 +71,7 @@ impl Spot {
 }
 
 fn is_phi(op: &Op) -> bool
-    ensures { result ≡ position.is_phi op.now }
+    ensures { result ≡ formed.is_phi op.now }
 {
     match op {
         Op::Phi { .. } => true,
