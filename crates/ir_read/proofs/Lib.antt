@@ -1,0 +1,5 @@
+-- Lemmas that nobody need believe.
+pub mod Answering
+pub mod LineForms
+pub mod Named
+pub mod Splitting

@@ -1,0 +1,50 @@
+-- Small texts and what they are, computed by the definitions.
+use Rattle.std.specs.Prelude.{◌≡◌, refl, codes, None, Ok, Err, [], ◌∷◌}
+use Rattle.ir_lex.specs.Bytes.{is_blank, is_sigil, is_mark, is_word_byte, is_control, begins_name}
+use Rattle.ir_lex.specs.Scan.{cut, more_len, name_len}
+use Rattle.ir_lex.specs.Words.{word}
+use Rattle.ir_types.specs.declared.ty.Ty.TheVariants.{Void}
+use Rattle.ir_types.specs.declared.op.Op.TheVariants.{Ret}
+use Rattle.ir_line.specs.declared.line.Line.TheVariants.{Stmt}
+use Rattle.ir_line.specs.declared.draft.DraftItem.TheVariants.{Func}
+use Rattle.ir_line.specs.Keeping.{keeps_mark, keeps_word}
+use Rattle.ir_line.specs.Values.{symbol_of, local_of, act_of}
+use Rattle.ir_line.specs.Reading.{labelled_at}
+use Rattle.ir_line.specs.Forms.{form, plain_line, act_line, by_act, returns}
+use Rattle.ir_line.specs.Headers.{header, head_of, ret_of, params_at}
+use Rattle.ir_line.specs.Body.{read_body, read_form}
+use Rattle.ir_line.specs.Outside.{read_outside}
+use Rattle.ir_read.specs.declared.refusal.ReadRefusal.TheVariants.{Lex, NotALine, Misplaced}
+use Rattle.ir_read.specs.Forms.{form_by, form_in}
+use Rattle.ir_read.specs.Limits.{with_function, passed}
+use Rattle.ir_read.specs.Position.{after_stmt, opened, at_close}
+use Rattle.ir_read.specs.Function.{opened_by, after_inst, with_line}
+use Rattle.ir_read.specs.Draft.{draft_of, header_line, line_inside, closed}
+
+-- a text without a line
+empty_text : draft_of [] ≡ Ok (record { items = [] })
+unfolding passed
+empty_text = refl
+
+-- a line that is none of the profile
+hello : draft_of (codes "hello") ≡ Err (NotALine 1)
+unfolding form_in form_by read_outside cut more_len is_blank is_sigil is_mark is_word_byte begins_name keeps_mark keeps_word word is_control
+hello = refl
+
+-- a lexical fault behind it comes first
+fault_first : draft_of (codes "hello\n \u{1}") ≡ Err (Lex 2 2)
+unfolding is_control
+fault_first = refl
+
+-- a function without its brace
+cut_off : draft_of (codes "define void @a() {\n  ret void") ≡ Err (Misplaced 3)
+unfolding form_in form_by read_outside cut more_len name_len is_blank is_sigil is_mark is_word_byte is_control begins_name keeps_mark keeps_word word symbol_of local_of act_of labelled_at header head_of ret_of params_at read_body read_form form plain_line act_line by_act returns header_line opened_by line_inside after_inst after_stmt
+cut_off = refl
+
+-- a function of one block
+one_block : draft_of (codes "define void @a() {\n  ret void\n}\n") ≡ Ok (record {
+  items = Func 1 (record { before = []; ret = Void; name = codes "a"; params = []; after = [] })
+      (record { line = 2; form = Stmt (record { result = None; ty = Void; op = Ret; args = []; labels = [] }) } ∷ []) ∷ [];
+})
+unfolding form_in form_by read_outside cut more_len name_len is_blank is_sigil is_mark is_word_byte is_control begins_name keeps_mark keeps_word word symbol_of local_of act_of labelled_at header head_of ret_of params_at read_body read_form form plain_line act_line by_act returns header_line opened_by line_inside after_inst after_stmt opened at_close closed with_line with_function passed
+one_block = refl

@@ -1,0 +1,12 @@
+-- What a text means as a draft, or why it is none.
+pub mod Answers
+pub mod Draft
+pub mod Examples
+pub mod Faults
+pub mod Forms
+pub mod Function
+pub mod Limits
+pub mod Lines
+pub mod Numbers
+pub mod Outlook
+pub mod Position
