@@ -1,9 +1,11 @@
 //! Statements: instructions whose names are not looked up yet.
 //!
-//! Nothing here fails.
+//! Nothing here fails but for want of memory.
 
 use crate::Args;
 use ir_types::{Bytes, Names, Op, Ty};
+use std::alloc::{AllocError, Global};
+use vx_list::{Equal, TryClone};
 
 /// An instruction as one line has it (Language Reference, "Instruction Reference").
 #[derive(Debug, Drop)]
@@ -17,4 +19,26 @@ pub struct Stmt {
     pub args: Args,
     /// The blocks that the line names, in its order, without `%`.
     pub labels: Names,
+}
+
+impl TryClone for Stmt {
+    fn try_clone(&self, alloc: Global) -> Result<Self, AllocError> {
+        Ok(Stmt {
+            result: self.result.try_clone(alloc)?,
+            ty: self.ty,
+            op: self.op.try_clone(alloc)?,
+            args: self.args.try_clone(alloc)?,
+            labels: self.labels.try_clone(alloc)?,
+        })
+    }
+}
+
+impl Equal for Stmt {
+    fn equal(&self, other: &Self) -> bool {
+        self.result.equal(&other.result)
+            && self.ty.equal(&other.ty)
+            && self.op.equal(&other.op)
+            && self.args.equal(&other.args)
+            && self.labels.equal(&other.labels)
+    }
 }

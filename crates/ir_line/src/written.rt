@@ -1,9 +1,10 @@
 //! Operands as they are written: names are not looked up yet.
 //!
-//! Nothing here fails.
+//! Nothing here fails but for want of memory.
 
 use ir_types::{Bytes, Literal, Ty};
-use vx_list::Seq;
+use std::alloc::{AllocError, Global};
+use vx_list::{Equal, Seq, TryClone};
 
 /// An operand as it is written.
 #[derive(Debug, Drop)]
@@ -25,3 +26,39 @@ pub struct Arg {
 
 /// The operands of a line in the order of its form.
 pub type Args = Seq<Arg>;
+
+impl TryClone for Written {
+    fn try_clone(&self, alloc: Global) -> Result<Self, AllocError> {
+        match self {
+            Written::Local(name) => Ok(Written::Local(name.try_clone(alloc)?)),
+            Written::Symbol(name) => Ok(Written::Symbol(name.try_clone(alloc)?)),
+            Written::Lit(literal) => Ok(Written::Lit(literal.try_clone(alloc)?)),
+        }
+    }
+}
+
+impl Equal for Written {
+    fn equal(&self, other: &Self) -> bool {
+        match (self, other) {
+            (Written::Local(name), Written::Local(other)) => name.equal(other),
+            (Written::Symbol(name), Written::Symbol(other)) => name.equal(other),
+            (Written::Lit(literal), Written::Lit(other)) => literal.equal(other),
+            _ => false,
+        }
+    }
+}
+
+impl TryClone for Arg {
+    fn try_clone(&self, alloc: Global) -> Result<Self, AllocError> {
+        Ok(Arg {
+            ty: self.ty,
+            opd: self.opd.try_clone(alloc)?,
+        })
+    }
+}
+
+impl Equal for Arg {
+    fn equal(&self, other: &Self) -> bool {
+        self.ty.equal(&other.ty) && self.opd.equal(&other.opd)
+    }
+}
