@@ -2,9 +2,14 @@ pub mod Answering
 pub mod BodyLines
 pub mod CallLines
 pub mod FlagWords
+pub mod LaneValues
 pub mod Lists
 pub mod OutsideLines
 pub mod Parts
 pub mod Places
+pub mod PowerAligns
+pub mod SoundForms
+pub mod SoundLines
 pub mod Steps
 pub mod Trees
+pub mod TypesOfKinds

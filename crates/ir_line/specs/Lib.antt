@@ -11,5 +11,6 @@ pub mod Layout
 pub mod Outside
 pub mod Pieces
 pub mod Reading
+pub mod Sound
 pub mod Values
 pub mod Words

@@ -37,7 +37,7 @@ pub use body::body_line;
 pub use draft::{Body, Draft, DraftItem, DraftItems, Numbered};
 pub use head::Head;
 pub use kept::Kept;
-pub use laws::{one_body_form, one_outside_form};
+pub use laws::{lines_are_sound, one_body_form, one_outside_form};
 pub use line::Line;
 pub use outside::module_line;
 pub use refusal::LineRefusal;
