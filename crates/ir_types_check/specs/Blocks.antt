@@ -17,7 +17,7 @@ use Rattle.ir_types_check.specs.declared.building.Built.{Built}
 use Rattle.ir_types_check.specs.declared.refusal.ResolveRefusal.{ResolveRefusal}
 use Rattle.ir_types_check.specs.Answers.{◌>>=◌}
 use Rattle.ir_types_check.specs.Scope.{Scope}
-use Rattle.ir_types_check.specs.Outline.{written}
+use Rattle.ir_types_check.specs.Outline.{written, written_name}
 use Rattle.ir_types_check.specs.Links.{linked, cases_of, op_of}
 
 -- the id with the number k in the module
@@ -56,7 +56,7 @@ with_inst n b inst = settled (is_terminator inst.op) b.blocks (with_last (open_b
 
 -- with a label, which opens a block
 unfoldable pub labelled : Built → List ℕ → Built
-labelled b name = record { blocks = closed b.blocks b.current; current = Some (record { name = written (Some name); insts = [] }); lines = b.lines }
+labelled b name = record { blocks = closed b.blocks b.current; current = Some (record { name = written_name name; insts = [] }); lines = b.lines }
 
 -- with a statement of the line n
 unfoldable pub with_statement : Scope Top → Scope Meaning → ℕ → ℕ → Built → Stmt → List Numbered → Result Built ResolveRefusal
@@ -74,10 +74,14 @@ built_lines tops locals base b (x ∷ xs) = built_line tops locals base x.line b
 
 -- ---- functions
 
+-- a parameter with its id
+abbrev pub param_of : ℕ → Param → Param
+param_of k p = record { id = id_of k; name = written p.name; ty = p.ty; attrs = p.attrs; noalias = p.noalias }
+
 -- the parameters with their ids, from the number k on
 abbrev pub params_from : ℕ → List Param → List Param
 params_from k [] = []
-params_from k (p ∷ ps) = record { id = id_of k; name = written p.name; ty = p.ty; attrs = p.attrs; noalias = p.noalias } ∷ params_from (k + 1) ps
+params_from k (p ∷ ps) = param_of k p ∷ params_from (k + 1) ps
 
 -- the header's line for each parameter
 abbrev pub param_lines : ℕ → List ℕ → List Param → List ℕ

@@ -2,7 +2,7 @@
 --
 -- An operand names a value of the function or a global, a label a block of the function, and a call a function of the draft. A
 -- label used as a value is unknown, and so is a value used as a label.
-use Rattle.std.specs.Prelude.{ℕ, ◌+◌, Option, None, Some, Result, Ok, Err, List, [], ◌∷◌, ◌++◌, map, slice_index_or}
+use Rattle.std.specs.Prelude.{ℕ, ◌+◌, Option, None, Some, Result, Ok, Err, List, [], ◌∷◌, ◌++◌, map, slice_get, unwrap_or}
 use Rattle.ir_types.specs.declared.opd.Opd.{Opd}
 use Rattle.ir_types.specs.declared.opd.Opd.TheVariants.{Val, Lit, Sym}
 use Rattle.ir_types.specs.declared.op.Op.{Op}
@@ -90,7 +90,7 @@ linked tops locals base n s = linked_by tops locals base n s s.op
 
 -- the lane of a case's literal
 abbrev pub lane_of : Literal → Option ℕ
-lane_of literal = slice_index_or literal.lanes 0 None
+lane_of literal = unwrap_or (slice_get literal.lanes 0) None
 
 -- a case: its line, its number, its label
 pub record Choice : Type 0 where
@@ -124,7 +124,7 @@ cases_of locals _ rest = Ok (record { values = []; to = [] })
 
 -- the block at a place among the labels; what is no place is the first block
 abbrev pub block_at : List ℕ → ℕ → ℕ
-block_at blocks place = slice_index_or blocks place 0
+block_at blocks place = unwrap_or (slice_get blocks place) 0
 
 -- the operation with blocks in place of the places of labels, and with its cases
 abbrev pub op_of : List ℕ → Cases → Op → Op

@@ -18,10 +18,14 @@ abbrev pub is_number : List ℕ → Bool
 is_number [] = false
 is_number (b ∷ bs) = is_ascii_digit b
 
+-- a name, unless it is a number
+abbrev pub written_name : List ℕ → Option (List ℕ)
+written_name name = cond (is_number name) None (Some name)
+
 -- the name of a thing that is named, and none of a numbered one
 abbrev pub written : Option (List ℕ) → Option (List ℕ)
 written None = None
-written (Some name) = cond (is_number name) None (Some name)
+written (Some name) = written_name name
 
 -- the counter behind a name: a number takes one
 abbrev pub after_name : ℕ → List ℕ → ℕ

@@ -45,19 +45,24 @@ abbrev pub resolved_items : Scope Top → Done → List DraftItem → Result Don
 resolved_items tops done [] = Ok done
 resolved_items tops done (x ∷ xs) = resolved_item tops done x >>= λ after. resolved_items tops after xs
 
--- the line n, if it says that the layout is big-endian; else a later one
-abbrev pub big_or : ℕ → Bool → Option ℕ → Option ℕ
-big_or n true later = Some n
-big_or n false later = later
+-- the line n, where it says that the layout is big-endian
+abbrev pub if_big : ℕ → Bool → Option ℕ
+if_big n true = Some n
+if_big n false = None
 
-abbrev pub big_before : DraftItem → Option ℕ → Option ℕ
-big_before (item.Kept n kept) later = big_or n kept.big_endian later
-big_before _ later = later
+-- the line of an item that says so
+abbrev pub big_line : DraftItem → Option ℕ
+big_line (item.Kept n kept) = if_big n kept.big_endian
+big_line _ = None
+
+abbrev pub or_later : Option ℕ → Option ℕ → Option ℕ
+or_later (Some n) later = Some n
+or_later None later = later
 
 -- the first line that says that the layout is big-endian
 abbrev pub big_endian_line : List DraftItem → Option ℕ
 big_endian_line [] = None
-big_endian_line (x ∷ xs) = big_before x (big_endian_line xs)
+big_endian_line (x ∷ xs) = or_later (big_line x) (big_endian_line xs)
 
 unfoldable pub module_of : Tops → List DraftItem → Done → Resolved
 module_of tops items done = record {

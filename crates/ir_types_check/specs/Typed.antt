@@ -8,10 +8,11 @@
 -- - a phi stands in the first block, its incoming blocks are not the block's predecessors, each as often as it has edges to the
 --   block, or one incoming block brings two operands;
 -- - a call gives or takes what its callee's header does not.
-use Rattle.std.specs.Prelude.{ℕ, Bool, true, false, not, ◌&&◌, Option, None, Some, Result, Ok, List, [], ◌∷◌, ◌++◌, map, bytes_eq, nat_eq, slice_index_or, slice_set, replicate}
+use Rattle.std.specs.Prelude.{ℕ, Bool, true, false, not, ◌&&◌, cond, Option, None, Some, Result, Ok, List, [], ◌∷◌, ◌++◌, map, bytes_eq, nat_eq, slice_get, unwrap_or, slice_set, replicate}
 use Rattle.std.specs.List.{list_all, list_any, count_by}
 use Rattle.ir_types.specs.declared.ty.Ty.{Ty}
 use Rattle.ir_types.specs.declared.ty.Ty.TheVariants.{Void, Int, Ptr, Row}
+use Rattle.ir_types.specs.declared.literal.Literal.{Literal}
 use Rattle.ir_types.specs.declared.op.Op.{Op}
 use Rattle.ir_types.specs.declared.op.Op.TheVariants.{Phi, Ret, Br, CondBr, Switch, Call}
 use Rattle.ir_line.specs.declared.head.Head.{Head}
@@ -46,11 +47,6 @@ same_ty Ptr Ptr = true
 same_ty (Row n w) (Row m v) = nat_eq n m && nat_eq w v
 same_ty _ _ = false
 
-abbrev pub same_types : List Ty → List Ty → Bool
-same_types [] [] = true
-same_types (t ∷ ts) (u ∷ us) = same_ty t u && same_types ts us
-same_types _ _ = false
-
 -- whether what a name means is a value of the type
 abbrev pub is_value_of : Ty → Option Meaning → Bool
 is_value_of ty (Some (Value place t)) = same_ty t ty
@@ -69,9 +65,15 @@ abbrev pub first_ty : List Arg → Ty
 first_ty [] = Void
 first_ty (a ∷ args) = a.ty
 
+-- whether operands are written with these types
+abbrev pub takes : List Ty → List Arg → Bool
+takes [] [] = true
+takes (t ∷ ts) (a ∷ args) = same_ty t a.ty && takes ts args
+takes _ _ = false
+
 -- whether a call gives and takes what its callee does
 abbrev pub calls : Ty → List Arg → Option Top → Bool
-calls ty args (Some (Function signature)) = same_ty signature.ret ty && same_types signature.params (map (λ (a : Arg). a.ty) args)
+calls ty args (Some (Function signature)) = same_ty signature.ret ty && takes signature.params args
 calls ty args _ = false
 
 -- ---- targets and edges
@@ -86,7 +88,7 @@ number_of locals label = number_in (meaning label locals)
 
 -- the block of the label at a place
 abbrev pub number_at : Scope Meaning → List (List ℕ) → ℕ → ℕ
-number_at locals labels place = number_of locals (slice_index_or labels place [])
+number_at locals labels place = number_of locals (unwrap_or (slice_get labels place) [])
 
 -- the targets that a branch or a `switch` names in its own line
 abbrev pub targets : Scope Meaning → List (List ℕ) → Op → List ℕ
@@ -110,7 +112,7 @@ case_targets locals _ rest = []
 -- sources: for each block the blocks with an edge to it, one for each edge
 
 abbrev pub sources_at : List (List ℕ) → ℕ → List ℕ
-sources_at sources to = slice_index_or sources to []
+sources_at sources to = unwrap_or (slice_get sources to) []
 
 abbrev pub with_edge : ℕ → List (List ℕ) → ℕ → List (List ℕ)
 with_edge from sources to = slice_set sources to (sources_at sources to ++ from ∷ [])
@@ -151,11 +153,14 @@ same_lanes [] [] = true
 same_lanes (a ∷ more) (b ∷ others) = same_lane a b && same_lanes more others
 same_lanes _ _ = false
 
+abbrev pub same_literal : Literal → Literal → Bool
+same_literal a b = same_ty a.ty b.ty && same_lanes a.lanes b.lanes
+
 -- whether two operands are one; no two names mean one value or one global
 abbrev pub same_opd : Written → Written → Bool
 same_opd (written.Local a) (written.Local b) = bytes_eq a b
 same_opd (written.Symbol a) (written.Symbol b) = bytes_eq a b
-same_opd (written.Lit a) (written.Lit b) = same_ty a.ty b.ty && same_lanes a.lanes b.lanes
+same_opd (written.Lit a) (written.Lit b) = same_literal a b
 same_opd _ _ = false
 
 -- whether an operand is the one that its block brought before, if it did
@@ -196,8 +201,15 @@ abbrev pub lane_number : Option ℕ → ℕ
 lane_number None = 0
 lane_number (Some n) = n
 
+abbrev pub literal_number : Literal → ℕ
+literal_number literal = lane_number (lane_of literal)
+
 abbrev pub case_number : Choice → ℕ
-case_number c = lane_number (lane_of c.value)
+case_number c = literal_number c.value
+
+-- the numbers with one more, each once
+abbrev pub with_number : List ℕ → ℕ → List ℕ
+with_number numbers n = cond (list_any (nat_eq n) numbers) numbers (numbers ++ n ∷ [])
 
 -- whether a case is of the type, has a number that is not among these, and goes not to the first block
 abbrev pub choice_fits : Scope Meaning → Ty → List ℕ → Choice → Bool
@@ -206,7 +218,7 @@ choice_fits locals ty numbers c =
 
 abbrev pub choices_typed : Scope Meaning → Ty → List ℕ → List Choice → Result (Unit {0}) ResolveRefusal
 choices_typed locals ty numbers [] = Ok tt
-choices_typed locals ty numbers (c ∷ cs) = well_typed c.line (choice_fits locals ty numbers c) >>= λ _. choices_typed locals ty (numbers ++ case_number c ∷ []) cs
+choices_typed locals ty numbers (c ∷ cs) = well_typed c.line (choice_fits locals ty numbers c) >>= λ _. choices_typed locals ty (with_number numbers (case_number c)) cs
 
 abbrev pub cases_typed : Scope Meaning → Stmt → Op → List Numbered → Result (Unit {0}) ResolveRefusal
 cases_typed locals s (Switch other cases to) rest = choices_typed locals (first_ty s.args) [] (choices rest)
