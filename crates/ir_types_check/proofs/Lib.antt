@@ -1,0 +1,4 @@
+-- Lemmas that nobody need believe.
+pub mod Counts
+pub mod Known
+pub mod Rows

@@ -1,0 +1,12 @@
+-- The pairs so far, with those that are left, are the whole.
+use Rattle.std.proofs.Common.{◌≡◌, [], length}
+use Rattle.ir_types_check.specs.Links.{pairs_onto}
+use Rattle.ir_types_check.proofs.links.by_turns.Given as goal
+
+abbrev pub invariant-each : goal.invariant-each
+invariant-each l =
+    pairs_onto l.tops l.locals l.base l.line l.whole l.args l.labels
+    ≡ pairs_onto l.tops l.locals l.base l.line (record { opds = []; blocks = [] }) l.fn.args l.fn.labels
+
+abbrev pub decreases-each : goal.decreases-each
+decreases-each l = length l.args

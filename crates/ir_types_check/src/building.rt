@@ -1,0 +1,397 @@
+//! `Built`: the blocks of a function so far; `Done`: the items of a module so far.
+//!
+//! The entry point is `resolved_items`. It fails at the first name that is unknown, or for want of memory.
+
+ghost use Rattle.std.specs.Prelude.{◌≡◌, ◌++◌, ◌∷◌, [], None, IfOk, OnOk, length};
+ghost use Rattle.ir_types_check.specs.Answers.{Gives};
+ghost use Rattle.ir_types_check.specs.Blocks as build;
+ghost use Rattle.ir_types_check.specs.Resolved as resolved;
+
+use crate::ResolveRefusal;
+use crate::links::{cases_of, link, op_of};
+use crate::locals::{Meaning, locals_of};
+use crate::outline::{count_of, is_terminator, one_more, written, written_name};
+use crate::scope::Scope;
+use crate::tops::Top;
+use ir_line::{DraftItem, Head, Line, Numbered, Stmt};
+use ir_types::{Block, Blocks, Bytes, Func, Id, Inst, Insts, Item, Items, Numbers, Param, Params};
+use std::alloc::{AllocError, Global};
+use vx_list::TryClone;
+
+/// The blocks of a function so far.
+#[derive(Drop)]
+pub(crate) struct Built {
+    /// Those that are closed.
+    pub(crate) blocks: Blocks,
+    /// The one that is open.
+    pub(crate) current: Option<Block>,
+    /// The line of each parameter and instruction of the module so far.
+    pub(crate) lines: Numbers,
+}
+
+/// The items of a module so far.
+#[derive(Drop)]
+pub(crate) struct Done {
+    pub(crate) items: Items,
+    /// The line of each parameter and instruction so far.
+    pub(crate) lines: Numbers,
+}
+
+/// The id with this number in the module.
+fn id_of(k: u32) -> Id
+    ensures { result ≡ build.id_of k }
+{
+    Id { region: 0, k }
+}
+
+/// The instruction that a statement is, where these lines follow it.
+#[tactic(auto, unfolding(crate::specs::Blocks::inst_of))]
+fn inst_of(
+    alloc: Global,
+    tops: &Scope<Top>,
+    locals: &Scope<Meaning>,
+    base: u32,
+    k: u32,
+    line: u32,
+    stmt: &Stmt,
+    rest: &[Numbered],
+) -> Result<Inst, ResolveRefusal>
+    ensures { Gives (λ inst. inst) result (build.inst_of tops.now locals.now base k line stmt.now rest.now) }
+{
+    let linked = link(alloc, tops, locals, base, line, stmt)?;
+    let cases = cases_of(alloc, locals, &stmt.op, rest)?;
+    let op = op_of(alloc, &linked.blocks, cases, &stmt.op)?;
+    let name = written(alloc, &stmt.result)?;
+    Ok(Inst {
+        id: id_of(k),
+        name,
+        ty: stmt.ty,
+        op,
+        opds: linked.opds,
+    })
+}
+
+/// The blocks with the one that is open, if there is one.
+fn closed(mut blocks: Blocks, current: Option<Block>) -> Result<Blocks, AllocError>
+    ensures { IfOk result (λ all. all ≡ build.closed blocks current) }
+{
+    if let Some(block) = current {
+        blocks.push(block)?;
+    }
+    Ok(blocks)
+}
+
+/// The open block; an unnamed one where there is none.
+fn open_block(alloc: Global, current: Option<Block>) -> Block
+    ensures { result ≡ build.open_block current }
+{
+    match current {
+        Some(block) => block,
+        None => Block {
+            name: None,
+            insts: Insts::new(alloc),
+        },
+    }
+}
+
+/// A block with one more instruction.
+fn with_last(block: Block, inst: Inst) -> Result<Block, AllocError>
+    ensures { IfOk result (λ more. more ≡ build.with_last block inst) }
+{
+    let Block { name, mut insts } = block;
+    insts.push(inst)?;
+    Ok(Block { name, insts })
+}
+
+/// Behind an instruction, which closes its block or leaves it open.
+fn settled(
+    ends: bool,
+    mut blocks: Blocks,
+    block: Block,
+    lines: Numbers,
+) -> Result<Built, AllocError>
+    ensures { IfOk result (λ after. after ≡ build.settled ends blocks block lines) }
+{
+    if ends {
+        blocks.push(block)?;
+        Ok(Built {
+            blocks,
+            current: None,
+            lines,
+        })
+    } else {
+        Ok(Built {
+            blocks,
+            current: Some(block),
+            lines,
+        })
+    }
+}
+
+impl Built {
+    /// With an instruction.
+    #[tactic(auto, unfolding(crate::specs::Blocks::with_inst))]
+    fn with_inst(self, alloc: Global, line: u32, inst: Inst) -> Result<Built, AllocError>
+        ensures { IfOk result (λ after. after ≡ build.with_inst line self inst) }
+    {
+        let Built {
+            blocks,
+            current,
+            mut lines,
+        } = self;
+        lines.push(line)?;
+        let ends = is_terminator(&inst.op);
+        let block = with_last(open_block(alloc, current), inst)?;
+        settled(ends, blocks, block, lines)
+    }
+
+    /// With a label, which opens a block.
+    #[tactic(auto, unfolding(crate::specs::Blocks::labelled))]
+    fn labelled(self, alloc: Global, name: &Bytes) -> Result<Built, AllocError>
+        ensures { IfOk result (λ after. after ≡ build.labelled self name.now) }
+    {
+        let Built {
+            blocks,
+            current,
+            lines,
+        } = self;
+        let blocks = closed(blocks, current)?;
+        let name = written_name(alloc, name)?;
+        Ok(Built {
+            blocks,
+            current: Some(Block {
+                name,
+                insts: Insts::new(alloc),
+            }),
+            lines,
+        })
+    }
+
+    /// With a statement.
+    #[tactic(auto, unfolding(crate::specs::Blocks::with_statement))]
+    fn with_statement(
+        self,
+        alloc: Global,
+        tops: &Scope<Top>,
+        locals: &Scope<Meaning>,
+        base: u32,
+        line: u32,
+        stmt: &Stmt,
+        rest: &[Numbered],
+    ) -> Result<Built, ResolveRefusal>
+        ensures { Gives (λ after. after) result (build.with_statement tops.now locals.now base line self stmt.now rest.now) }
+    {
+        let k = count_of(self.lines.len())?;
+        let inst = inst_of(alloc, tops, locals, base, k, line, stmt, rest)?;
+        Ok(self.with_inst(alloc, line, inst)?)
+    }
+
+    /// With a line of the body, behind which these follow.
+    fn with_line(
+        self,
+        alloc: Global,
+        tops: &Scope<Top>,
+        locals: &Scope<Meaning>,
+        base: u32,
+        line: u32,
+        form: &Line,
+        rest: &[Numbered],
+    ) -> Result<Built, ResolveRefusal>
+        ensures { Gives (λ after. after) result (build.built_line tops.now locals.now base line self form.now rest.now) }
+    {
+        match form {
+            Line::Label(name) => Ok(self.labelled(alloc, name)?),
+            Line::Stmt(stmt) => { self.with_statement(alloc, tops, locals, base, line, stmt, rest) }
+            _ => Ok(self),
+        }
+    }
+
+    /// With all lines of the body.
+    fn with_lines(
+        self,
+        alloc: Global,
+        tops: &Scope<Top>,
+        locals: &Scope<Meaning>,
+        base: u32,
+        body: &[Numbered],
+    ) -> Result<Built, ResolveRefusal>
+        ensures { Gives (λ after. after) result (build.built_lines tops.now locals.now base self body.now) }
+    {
+        let mut whole = self;
+        let mut rest = body;
+        'each: while let [first, after @ ..] = rest {
+            whole = whole.with_line(alloc, tops, locals, base, first.line, &first.form, after)?;
+            rest = after;
+        }
+        Ok(whole)
+    }
+}
+
+/// A parameter with its id.
+fn param_of(alloc: Global, k: u32, param: &Param) -> Result<Param, AllocError>
+    ensures { IfOk result (λ copy. copy ≡ build.param_of k param.now) }
+{
+    Ok(Param {
+        id: id_of(k),
+        name: written(alloc, &param.name)?,
+        ty: param.ty,
+        attrs: param.attrs.try_clone(alloc)?,
+        noalias: param.noalias,
+    })
+}
+
+/// The parameters with their ids, from a number on.
+fn params_from(alloc: Global, base: u32, params: &[Param]) -> Result<Params, AllocError>
+    ensures { IfOk result (λ copies. copies ≡ build.params_from base params.now) }
+{
+    let mut copies = Params::new(alloc);
+    let mut k = base;
+    let mut rest = params;
+    'each: while let [param, after @ ..] = rest {
+        let copy = param_of(alloc, k, param)?;
+        copies.push(copy)?;
+        k = one_more(k)?;
+        rest = after;
+    }
+    Ok(copies)
+}
+
+/// Adds the header's line for each parameter.
+fn add_param_lines(lines: &mut Numbers, line: u32, params: &[Param]) -> Result<(), AllocError>
+    ensures { OnOk result (lines.new ≡ build.param_lines line lines.old params.now) }
+{
+    let mut rest = params;
+    'each: while let [_, after @ ..] = rest {
+        lines.push(line)?;
+        rest = after;
+    }
+    Ok(())
+}
+
+/// A function of these blocks.
+fn func_of(alloc: Global, base: u32, head: &Head, blocks: Blocks) -> Result<Func, AllocError>
+    ensures { IfOk result (λ func. func ≡ build.func_of base head.now blocks) }
+{
+    let before = head.before.try_clone(alloc)?;
+    let name = head.name.try_clone(alloc)?;
+    let params = params_from(alloc, base, head.params.as_slice())?;
+    let after = head.after.try_clone(alloc)?;
+    Ok(Func {
+        before,
+        ret: head.ret,
+        name,
+        params,
+        after,
+        blocks,
+    })
+}
+
+/// The blocks of a function, behind these lines of the module's ids.
+#[tactic(auto, unfolding(crate::specs::Blocks::built_of))]
+fn built_of(
+    alloc: Global,
+    tops: &Scope<Top>,
+    locals: &Scope<Meaning>,
+    base: u32,
+    line: u32,
+    lines: Numbers,
+    head: &Head,
+    body: &[Numbered],
+) -> Result<Built, ResolveRefusal>
+    requires { base ≡ length lines }
+    ensures { Gives (λ after. after) result (build.built_of tops.now locals.now line lines head.now body.now) }
+{
+    let mut lines = lines;
+    add_param_lines(&mut lines, line, head.params.as_slice())?;
+    let start = Built {
+        blocks: Blocks::new(alloc),
+        current: None,
+        lines,
+    };
+    start.with_lines(alloc, tops, locals, base, body)
+}
+
+impl Done {
+    /// With a kept line or an opaque function.
+    #[tactic(auto, unfolding(crate::specs::Resolved::with_kept))]
+    fn with_kept(self, item: Item) -> Result<Done, AllocError>
+        ensures { IfOk result (λ after. after ≡ resolved.with_kept self item) }
+    {
+        let Done { mut items, lines } = self;
+        items.push(item)?;
+        Ok(Done { items, lines })
+    }
+
+    /// With a function.
+    #[tactic(auto, unfolding(crate::specs::Resolved::resolved_function, crate::specs::Resolved::with_built))]
+    fn with_function(
+        self,
+        alloc: Global,
+        tops: &Scope<Top>,
+        line: u32,
+        head: &Head,
+        body: &[Numbered],
+    ) -> Result<Done, ResolveRefusal>
+        ensures { Gives (λ after. after) result (resolved.resolved_function tops.now line self head.now body.now) }
+    {
+        let locals = locals_of(alloc, line, head, body)?;
+        let Done { mut items, lines } = self;
+        let base = count_of(lines.len())?;
+        let built = built_of(alloc, tops, &locals.scope, base, line, lines, head, body)?;
+        let blocks = closed(built.blocks, built.current)?;
+        let func = func_of(alloc, base, head, blocks)?;
+        items.push(Item::Func(func))?;
+        Ok(Done {
+            items,
+            lines: built.lines,
+        })
+    }
+
+    /// With an item.
+    fn with_item(
+        self,
+        alloc: Global,
+        tops: &Scope<Top>,
+        item: &DraftItem,
+    ) -> Result<Done, ResolveRefusal>
+        ensures { Gives (λ after. after) result (resolved.resolved_item tops.now self item.now) }
+    {
+        match item {
+            DraftItem::Kept { line: _, kept } => {
+                let text = kept.text.try_clone(alloc)?;
+                Ok(self.with_kept(Item::Kept(text))?)
+            }
+            DraftItem::Opaque {
+                line: _,
+                name: _,
+                text,
+            } => {
+                let text = text.try_clone(alloc)?;
+                Ok(self.with_kept(Item::Opaque(text))?)
+            }
+            DraftItem::Func { line, head, body } => {
+                self.with_function(alloc, tops, *line, head, body.as_slice())
+            }
+        }
+    }
+}
+
+/// The items of the module.
+pub(crate) fn resolved_items(
+    alloc: Global,
+    tops: &Scope<Top>,
+    items: &[DraftItem],
+) -> Result<Done, ResolveRefusal>
+    ensures { Gives (λ done. done) result (resolved.resolved_items tops.now (record { items = []; lines = [] }) items.now) }
+{
+    let mut done = Done {
+        items: Items::new(alloc),
+        lines: Numbers::new(alloc),
+    };
+    let mut rest = items;
+    'each: while let [item, after @ ..] = rest {
+        done = done.with_item(alloc, tops, item)?;
+        rest = after;
+    }
+    Ok(done)
+}

@@ -1,0 +1,185 @@
+//! `Locals`: what the names of a function mean.
+//!
+//! The entry point is `locals_of`. It fails at the first name that is defined twice, or for want of memory.
+
+ghost use Rattle.std.specs.Prelude.{◌≡◌, []};
+ghost use Rattle.ir_types_check.specs.Answers.{Gives};
+ghost use Rattle.ir_types_check.specs.Locals as locals;
+
+use crate::ResolveRefusal;
+use crate::outline::{At, decimal_name};
+use crate::scope::Scope;
+use ir_line::{Head, Line, Numbered, Stmt};
+use ir_types::{Param, Ty};
+use std::alloc::Global;
+
+/// What a local name means.
+#[derive(Clone, Copy)]
+pub(crate) enum Meaning {
+    /// The parameter or result of this place, counted from 0 in the function over parameters and instructions, and its type.
+    Value { place: u32, ty: Ty },
+    /// The block of this number.
+    Block(u32),
+}
+
+/// The local names so far, and where the next line stands.
+#[derive(Drop)]
+pub(crate) struct Locals {
+    pub(crate) scope: Scope<Meaning>,
+    pub(crate) at: At,
+}
+
+impl Locals {
+    /// With a name that a line defines.
+    #[tactic(auto, unfolding(crate::specs::Locals::with_name))]
+    fn add(
+        &mut self,
+        alloc: Global,
+        line: u32,
+        name: &[u8],
+        meaning: Meaning,
+        at: At,
+    ) -> Result<(), ResolveRefusal>
+        ensures { Gives (λ _. self.new) result (locals.with_name line self.old name.now meaning at) }
+    {
+        self.scope.define(alloc, line, b'%', name, meaning)?;
+        self.at = at;
+        Ok(())
+    }
+
+    /// With a parameter.
+    #[tactic(auto, unfolding(crate::specs::Locals::with_param))]
+    fn add_param(&mut self, alloc: Global, line: u32, param: &Param) -> Result<(), ResolveRefusal>
+        ensures { Gives (λ _. self.new) result (locals.with_param line self.old param.now) }
+    {
+        let at = self.at.behind_param(param)?;
+        let meaning = Meaning::Value {
+            place: self.at.place,
+            ty: param.ty,
+        };
+        match &param.name {
+            Some(name) => self.add(alloc, line, name.as_slice(), meaning, at),
+            None => {
+                let name = decimal_name(alloc, self.at.next)?;
+                self.add(alloc, line, name.as_slice(), meaning, at)
+            }
+        }
+    }
+
+    /// With the parameters of a header.
+    fn add_params(
+        &mut self,
+        alloc: Global,
+        line: u32,
+        params: &[Param],
+    ) -> Result<(), ResolveRefusal>
+        ensures { Gives (λ _. self.new) result (locals.with_params line self.old params.now) }
+    {
+        let mut rest = params;
+        'each: while let [param, after @ ..] = rest {
+            self.add_param(alloc, line, param)?;
+            rest = after;
+        }
+        Ok(())
+    }
+
+    /// With a label.
+    #[tactic(auto, unfolding(crate::specs::Locals::with_label))]
+    fn add_label(&mut self, alloc: Global, line: u32, name: &[u8]) -> Result<(), ResolveRefusal>
+        ensures { Gives (λ _. self.new) result (locals.with_label line self.old name.now) }
+    {
+        let at = self.at.behind_label(name)?;
+        self.add(alloc, line, name, Meaning::Block(self.at.blocks), at)
+    }
+
+    /// With a block open.
+    #[tactic(auto, unfolding(crate::specs::Locals::with_opened))]
+    fn add_opened(&mut self, alloc: Global, line: u32) -> Result<(), ResolveRefusal>
+        ensures { Gives (λ _. self.new) result (locals.with_opened line self.old) }
+    {
+        if self.at.is_open {
+            return Ok(());
+        }
+        let at = self.at.opened()?;
+        let name = decimal_name(alloc, self.at.next)?;
+        self.add(
+            alloc,
+            line,
+            name.as_slice(),
+            Meaning::Block(self.at.blocks),
+            at,
+        )
+    }
+
+    /// With the result of an instruction, if it has one.
+    fn add_result(&mut self, alloc: Global, line: u32, stmt: &Stmt) -> Result<(), ResolveRefusal>
+        ensures { Gives (λ _. self.new) result (locals.with_result line self.old stmt.now stmt.now.result) }
+    {
+        let at = self.at.behind_inst(stmt)?;
+        match &stmt.result {
+            Some(name) => {
+                let meaning = Meaning::Value {
+                    place: self.at.place,
+                    ty: stmt.ty,
+                };
+                self.add(alloc, line, name.as_slice(), meaning, at)
+            }
+            None => {
+                self.at = at;
+                Ok(())
+            }
+        }
+    }
+
+    /// With an instruction.
+    #[tactic(auto, unfolding(crate::specs::Locals::with_stmt))]
+    fn add_stmt(&mut self, alloc: Global, line: u32, stmt: &Stmt) -> Result<(), ResolveRefusal>
+        ensures { Gives (λ _. self.new) result (locals.with_stmt line self.old stmt.now) }
+    {
+        self.add_opened(alloc, line)?;
+        self.add_result(alloc, line, stmt)?;
+        Ok(())
+    }
+
+    /// With a line of the body.
+    fn add_line(&mut self, alloc: Global, line: u32, form: &Line) -> Result<(), ResolveRefusal>
+        ensures { Gives (λ _. self.new) result (locals.with_line line self.old form.now) }
+    {
+        match form {
+            Line::Label(name) => self.add_label(alloc, line, name.as_slice()),
+            Line::Stmt(stmt) => self.add_stmt(alloc, line, stmt),
+            _ => Ok(()),
+        }
+    }
+
+    /// With all lines of the body.
+    fn add_lines(&mut self, alloc: Global, body: &[Numbered]) -> Result<(), ResolveRefusal>
+        ensures { Gives (λ _. self.new) result (locals.with_lines self.old body.now) }
+    {
+        let mut rest = body;
+        'each: while let [first, after @ ..] = rest {
+            self.add_line(alloc, first.line, &first.form)?;
+            rest = after;
+        }
+        Ok(())
+    }
+}
+
+/// The names of a function whose header stands in this line.
+#[tactic(auto, unfolding(crate::specs::Locals::locals_of))]
+pub(crate) fn locals_of(
+    alloc: Global,
+    line: u32,
+    head: &Head,
+    body: &[Numbered],
+) -> Result<Locals, ResolveRefusal>
+    ensures { Gives (λ whole. whole) result (locals.locals_of line head.now body.now) }
+{
+    let mut whole = Locals {
+        scope: Scope::new(alloc),
+        at: At::start(),
+    };
+    whole.add_params(alloc, line, head.params.as_slice())?;
+    whole.add_lines(alloc, body)?;
+    Ok(whole)
+}

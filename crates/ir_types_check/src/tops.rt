@@ -1,0 +1,161 @@
+//! `Tops`: what the names of a module mean.
+//!
+//! The entry point is `tops_of`. It fails at the first name that is defined twice, in the module or in a function, or for want of
+//! memory.
+
+ghost use Rattle.std.specs.Prelude.{◌≡◌, IfOk};
+ghost use Rattle.ir_types_check.specs.Answers.{Gives};
+ghost use Rattle.ir_types_check.specs.Tops as tops;
+
+use crate::ResolveRefusal;
+use crate::locals::locals_of;
+use crate::outline::count_of;
+use crate::scope::Scope;
+use ir_line::{DraftItem, Head, Kept, Numbered};
+use ir_types::{Bytes, Names, Ty};
+use std::alloc::{AllocError, Global};
+use vx_list::{Seq, TryClone};
+
+/// What a function gives and takes.
+#[derive(Drop)]
+pub(crate) struct Signature {
+    pub(crate) ret: Ty,
+    pub(crate) params: Seq<Ty>,
+}
+
+/// What a name of a module means.
+#[derive(Drop)]
+pub(crate) enum Top {
+    /// The global of this number.
+    Global(u32),
+    /// A function of the draft.
+    Function(Signature),
+    /// A symbol that is no global, or an opaque function.
+    Other,
+}
+
+/// The names of a module so far.
+#[derive(Drop)]
+pub(crate) struct Tops {
+    pub(crate) scope: Scope<Top>,
+    /// The names of the globals in order of their lines.
+    pub(crate) globals: Names,
+}
+
+/// What a header gives and takes.
+fn signature_of(alloc: Global, head: &Head) -> Result<Signature, AllocError>
+    ensures { IfOk result (λ signature. signature ≡ tops.signature_of head.now) }
+{
+    let mut params = Seq::new(alloc);
+    for param in head.params.as_slice() {
+        params.push(param.ty)?;
+    }
+    Ok(Signature {
+        ret: head.ret,
+        params,
+    })
+}
+
+impl Tops {
+    /// With a name that is no global.
+    #[tactic(auto, unfolding(crate::specs::Tops::with_top))]
+    fn add(&mut self, alloc: Global, line: u32, name: &[u8], top: Top) -> Result<(), ResolveRefusal>
+        ensures { Gives (λ _. self.new) result (tops.with_top line self.old name.now top) }
+    {
+        self.scope.define(alloc, line, b'@', name, top)?;
+        Ok(())
+    }
+
+    /// With a global.
+    #[tactic(auto, unfolding(crate::specs::Tops::with_global))]
+    fn add_global(&mut self, alloc: Global, line: u32, name: &Bytes) -> Result<(), ResolveRefusal>
+        ensures { Gives (λ _. self.new) result (tops.with_global line self.old name.now) }
+    {
+        let number = count_of(self.globals.len())?;
+        self.scope
+            .define(alloc, line, b'@', name.as_slice(), Top::Global(number))?;
+        self.globals.push(name.try_clone(alloc)?)?;
+        Ok(())
+    }
+
+    /// With the symbol of a kept line.
+    fn add_kept(&mut self, alloc: Global, line: u32, kept: &Kept) -> Result<(), ResolveRefusal>
+        ensures { Gives (λ _. self.new) result (tops.with_symbol line self.old kept.now.global kept.now.symbol) }
+    {
+        match &kept.symbol {
+            None => Ok(()),
+            Some(name) => {
+                if kept.global {
+                    self.add_global(alloc, line, name)
+                } else {
+                    self.add(alloc, line, name.as_slice(), Top::Other)
+                }
+            }
+        }
+    }
+
+    /// With the name of an opaque function.
+    fn add_opaque(
+        &mut self,
+        alloc: Global,
+        line: u32,
+        name: &Option<Bytes>,
+    ) -> Result<(), ResolveRefusal>
+        ensures { Gives (λ _. self.new) result (tops.with_opaque line self.old name.now) }
+    {
+        match name {
+            None => Ok(()),
+            Some(name) => self.add(alloc, line, name.as_slice(), Top::Other),
+        }
+    }
+
+    /// With a function.
+    #[tactic(auto, unfolding(crate::specs::Tops::with_function))]
+    fn add_function(
+        &mut self,
+        alloc: Global,
+        line: u32,
+        head: &Head,
+        body: &[Numbered],
+    ) -> Result<(), ResolveRefusal>
+        ensures { Gives (λ _. self.new) result (tops.with_function line self.old head.now body.now) }
+    {
+        let signature = signature_of(alloc, head)?;
+        self.add(alloc, line, head.name.as_slice(), Top::Function(signature))?;
+        locals_of(alloc, line, head, body)?;
+        Ok(())
+    }
+
+    /// With an item.
+    fn add_item(&mut self, alloc: Global, item: &DraftItem) -> Result<(), ResolveRefusal>
+        ensures { Gives (λ _. self.new) result (tops.with_item self.old item.now) }
+    {
+        match item {
+            DraftItem::Kept { line, kept } => self.add_kept(alloc, *line, kept),
+            DraftItem::Opaque {
+                line,
+                name,
+                text: _,
+            } => self.add_opaque(alloc, *line, name),
+            DraftItem::Func { line, head, body } => {
+                self.add_function(alloc, *line, head, body.as_slice())
+            }
+        }
+    }
+}
+
+/// The names of a module.
+pub(crate) fn tops_of(alloc: Global, items: &[DraftItem]) -> Result<Tops, ResolveRefusal>
+    ensures { Gives (λ whole. whole) result (tops.tops_of items.now) }
+{
+    let mut whole = Tops {
+        scope: Scope::new(alloc),
+        globals: Names::new(alloc),
+    };
+    let mut rest = items;
+    'each: while let [item, after @ ..] = rest {
+        whole.add_item(alloc, item)?;
+        rest = after;
+    }
+    Ok(whole)
+}
