@@ -7,6 +7,17 @@
 ghost use Rattle.std.specs.Prelude.{◌≡◌, IfOk};
 ghost use Rattle.ir_model.specs.Run.{run_of};
 
+mod accesses;
+mod addresses;
+mod bytes;
+mod environment;
+mod lanes;
+mod pairing;
+mod slots;
+mod step;
+mod values;
+mod vectors;
+
 use ir_model::{Memory, Outcome, Values};
 use ir_types::Module;
 use std::alloc::{AllocError, Global};

@@ -1,0 +1,7 @@
+-- What the loops over lanes and bytes stand on.
+mod Partners
+mod Pieces
+mod Scales
+mod Bits
+mod Writes
+mod Items
