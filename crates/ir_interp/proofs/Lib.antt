@@ -5,3 +5,4 @@ mod Scales
 mod Bits
 mod Writes
 mod Items
+mod Steps

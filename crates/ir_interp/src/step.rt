@@ -90,9 +90,9 @@ fn effect_of(
         Op::Gep { elem, inbounds: true } => Ok(value_effect(inbounds_value(
             *elem, ty, types, values, memory,
         ))),
-        Op::Load { align } => load(alloc, *align, ty, values, memory),
-        Op::Store { align } => store(alloc, *align, ty, values, memory),
-        Op::Alloca { elem, .. } => allocated(alloc, *elem, ty, values, memory),
+        Op::Load { align } => Ok(load(alloc, *align, ty, values, memory)?),
+        Op::Store { align } => Ok(store(alloc, *align, ty, values, memory)?),
+        Op::Alloca { elem, .. } => Ok(allocated(alloc, *elem, ty, values, memory)?),
         _ => Ok(value_effect(result_of(alloc, op, ty, types, values)?)),
     }
 }
@@ -105,7 +105,7 @@ fn load(
     values: &[Value],
     memory: &Memory,
 ) -> Result<Effect, OutOfMemory>
-    ensures { (types : List Ty) → IfOk result (λ effect. effect_in effect memory.now ≡ effect_of (Load align) ty types values.now memory.now) }
+    ensures { IfOk result (λ effect. (types : List Ty) → effect_in effect memory.now ≡ effect_of (Load align) ty types values.now memory.now) }
 {
     match values {
         [p] => Ok(value_effect(typed_load(alloc, align, ty, pointer_of(p), memory)?)),
@@ -121,7 +121,7 @@ fn store(
     values: &[Value],
     memory: &mut Memory,
 ) -> Result<Effect, OutOfMemory>
-    ensures { (types : List Ty) → IfOk result (λ effect. effect_in effect memory.new ≡ effect_of (Store align) ty types values.now memory.old) }
+    ensures { IfOk result (λ effect. (types : List Ty) → effect_in effect memory.new ≡ effect_of (Store align) ty types values.now memory.old) }
 {
     match values {
         [value, p] => {
@@ -140,7 +140,7 @@ fn allocated(
     values: &[Value],
     memory: &mut Memory,
 ) -> Result<Effect, OutOfMemory>
-    ensures { (types : List Ty) (align : Option ℕ) → IfOk result (λ effect. effect_in effect memory.new ≡ effect_of (Alloca elem align) ty types values.now memory.old) }
+    ensures { IfOk result (λ effect. (types : List Ty) (align : Option ℕ) → effect_in effect memory.new ≡ effect_of (Alloca elem align) ty types values.now memory.old) }
 {
     match (ty, values) {
         (Ty::Ptr, []) => Ok(Effect::Result(alloca(alloc, elem, memory)?)),

@@ -1,0 +1,19 @@
+-- A step that gives a result sets the value of its id.
+use Rattle.std.proofs.Common.{◌≡◌, sym, ap, ◌∙◌, Some, List, map}
+use Rattle.ir_types.specs.declared.id.Id.{Id}
+use Rattle.ir_types.specs.declared.ty.Ty.{Ty}
+use Rattle.ir_types.specs.declared.inst.Inst.{Inst}
+use Rattle.ir_model.specs.declared.value.Value.{Value}
+use Rattle.ir_model.specs.Values.{Env, with_value, value_of, type_of}
+use Rattle.ir_model.specs.Memory.{Memory}
+use Rattle.ir_model.specs.Step.{State, effect_of, after_effect, step_of}
+use Rattle.ir_interp.specs.Effects.{effect_with}
+
+pub step_of-result : (types : Id → Ty) (env new : Env) (i : Inst) (m after : Memory) (v : Value) (ts : List Ty) (vs : List Value)
+    → ts ≡ map (type_of types) i.opds → vs ≡ map (value_of env) i.opds
+    → Some (effect_with v after) ≡ effect_of i.op i.ty ts vs m → new ≡ with_value env i.id v
+    → Some (record { env = new; memory = after }) ≡ step_of types i (record { env = env; memory = m })
+step_of-result types env new i m after v ts vs et ev e g =
+    let same : Some (effect_with v after) ≡ effect_of i.op i.ty (map (type_of types) i.opds) (map (value_of env) i.opds) m =
+        e ∙ ap (λ l. effect_of i.op i.ty l vs m) et ∙ ap (λ l. effect_of i.op i.ty (map (type_of types) i.opds) l m) ev in
+    ap (λ (l : Env). Some (record { env = l; memory = after })) g ∙ ap (after_effect env i.id) same
