@@ -6,3 +6,4 @@ mod Bits
 mod Writes
 mod Items
 mod Steps
+mod Edges

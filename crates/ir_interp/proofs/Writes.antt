@@ -36,8 +36,8 @@ pub stored_in-is : (m taken_out m2 : Memory) (number at align : ℕ) (offset : �
 stored_in-is m taken_out m2 number at align offset bytes object taken written e place t o w b =
     let same : taken ≡ object = cc in
     let new : m2 ≡ slice_set m number (put bytes at object) =
-        b ∙ ap (λ l. slice_set l number written) o ∙ slice_set-again m number [] written
-        ∙ ap (λ l. slice_set m number l) (w ∙ ap (put bytes at) same) in
+    b ∙ ap (λ l. slice_set l number written) o ∙ slice_set-again m number [] written
+    ∙ ap (λ l. slice_set m number l) (w ∙ ap (put bytes at) same) in
     ap (λ l. stored_if true l) new
     ∙ ap (λ p. memory_effect (option_map (with_bytes m number object bytes) p)) place
     ∙ ap (λ l. memory_effect (stored_in m number offset align bytes l)) e

@@ -5,3 +5,4 @@ pub mod Walks
 pub mod Lowest
 pub mod Effects
 pub mod Slots
+pub mod Blocks

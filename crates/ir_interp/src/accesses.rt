@@ -9,8 +9,8 @@ ghost use Rattle.ir_model.specs.Memory.{place_of, put, loaded_from, loaded, stor
 ghost use Rattle.ir_model.specs.Accesses.{value_effect, memory_effect, bytes_of, typed_load, load_effect, load_row_effect, store_effect, alloca_effect, fresh_object};
 ghost use Rattle.ir_interp.specs.Effects.{stored_if, effect_with};
 
-use crate::addresses::{size_of, Pointer};
-use crate::bytes::{bytes_of, lane_from, lanes_from, Byte};
+use crate::addresses::{Pointer, size_of};
+use crate::bytes::{Byte, bytes_of, lane_from, lanes_from};
 use ir_model::{Memory, Object, Value};
 use ir_types::{Elem, Ty};
 use std::alloc::{AllocError, Global};
@@ -36,11 +36,7 @@ fn place_of(offset: i64, size: usize, align: u64, len: usize) -> Option<usize>
 fn is_aligned(at: u64, align: u64) -> bool
     ensures { result ≡ nat_eq (at % align) 0 }
 {
-    if align == 0 {
-        at == 0
-    } else {
-        at % align == 0
-    }
+    if align == 0 { at == 0 } else { at % align == 0 }
 }
 
 /// The bytes of an object from the place of an access on.
@@ -73,7 +69,12 @@ pub(crate) fn typed_load(
     match ty {
         Ty::Int(w) if w <= 64 => Ok(load_lane(usize::from(w / 8), align, pointer, memory)),
         Ty::Row { n, w } if w <= 64 => load_row(
-            alloc, usize::from(n), usize::from(w / 8), align, pointer, memory,
+            alloc,
+            usize::from(n),
+            usize::from(w / 8),
+            align,
+            pointer,
+            memory,
         ),
         _ => Ok(None),
     }
@@ -125,13 +126,7 @@ pub(crate) fn typed_store(
 }
 
 /// Stores bytes, and says whether that is defined.
-fn store(
-    alloc: Global,
-    align: u64,
-    bytes: &[Byte],
-    pointer: Pointer,
-    memory: &mut Memory,
-) -> bool
+fn store(alloc: Global, align: u64, bytes: &[Byte], pointer: Pointer, memory: &mut Memory) -> bool
     ensures { stored_if result memory.new ≡ store_effect align (Some bytes.now) pointer memory.old }
 {
     match pointer {
@@ -175,11 +170,7 @@ fn put(bytes: &[Byte], at: usize, object: &mut Object)
 }
 
 /// Makes a new last object of poison, and gives the pointer to its start (Language Reference, "alloca").
-pub(crate) fn alloca(
-    alloc: Global,
-    elem: Elem,
-    memory: &mut Memory,
-) -> Result<Value, OutOfMemory>
+pub(crate) fn alloca(alloc: Global, elem: Elem, memory: &mut Memory) -> Result<Value, OutOfMemory>
     ensures { IfOk result (λ value. effect_with value memory.new ≡ alloca_effect elem memory.old) }
 {
     let Ok(number) = u32::try_from(memory.len()) else {

@@ -13,7 +13,7 @@ ghost use Rattle.ir_interp.specs.Walks.{walked_in};
 use crate::lanes::low;
 use ir_model::{Memory, Object, Value};
 use ir_types::{Elem, Ty};
-use vx_num::{advance, Lane};
+use vx_num::{Lane, advance};
 
 /// A pointer: poison, or the number of an object and an offset in bytes.
 pub(crate) type Pointer = Option<(u32, i64)>;
@@ -73,7 +73,12 @@ fn walked(elem: Elem, types: &[Ty], values: &[Value]) -> Option<Pointer>
     match (types, values) {
         ([_, Ty::Int(w)], [p, Value::Lane(index)]) => walked_once(elem, *w, pointer_of(p), *index),
         ([_, Ty::Int(w), Ty::Int(v)], [p, Value::Lane(index), Value::Lane(inner)]) => walked_in(
-            elem, *w, *v, pointer_of(p), *index, *inner,
+            elem,
+            *w,
+            *v,
+            pointer_of(p),
+            *index,
+            *inner,
         ),
         _ => None,
     }
@@ -103,7 +108,10 @@ fn walked_in(
 {
     match elem {
         Elem::Array { n, w: e } if w <= 64 && v <= 64 => Some(stepped(
-            v, u64::from(e / 8), stepped(w, array_scale(n, e), pointer, index), inner,
+            v,
+            u64::from(e / 8),
+            stepped(w, array_scale(n, e), pointer, index),
+            inner,
         )),
         _ => None,
     }
@@ -162,7 +170,9 @@ pub(crate) fn inbounds_value(
 {
     match (ty, values) {
         (Ty::Ptr, [base, ..]) => Some(Value::Ptr(kept_inside(
-            memory, pointer_of(base), walked(elem, types, values)?,
+            memory,
+            pointer_of(base),
+            walked(elem, types, values)?,
         ))),
         _ => None,
     }

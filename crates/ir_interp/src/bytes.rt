@@ -70,7 +70,9 @@ pub(crate) fn bytes_of(alloc: Global, ty: Ty, value: &Value) -> Result<Option<Ob
     match (ty, value) {
         (Ty::Int(w), Value::Lane(lane)) => Ok(Some(lane_bytes(alloc, usize::from(w / 8), *lane)?)),
         (Ty::Row { w, .. }, Value::Row(lanes)) => Ok(Some(row_bytes(
-            alloc, usize::from(w / 8), lanes.as_slice(),
+            alloc,
+            usize::from(w / 8),
+            lanes.as_slice(),
         )?)),
         _ => Ok(None),
     }

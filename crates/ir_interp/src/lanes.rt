@@ -6,7 +6,7 @@ ghost use Rattle.std.specs.Prelude.{◌≡◌, ◌≤◌};
 ghost use Rattle.vx_num.specs.Width.{IsLane};
 ghost use Rattle.ir_model.specs.Operations.{low, bin_lane, cmp_lane, cast_lane, chosen_by};
 
-use vx_num::{bin, cast, cmp, BinOp, CastOp, Done, Flags, Lane, Pred};
+use vx_num::{BinOp, CastOp, Done, Flags, Lane, Pred, bin, cast, cmp};
 
 /// The low bits of a lane.
 pub(crate) fn low(w: u8, lane: Lane) -> Lane
@@ -55,9 +55,5 @@ pub(crate) fn chosen_by<T: Copy>(c: Lane, a: Option<T>, b: Option<T>) -> Option<
     ensures { result ≡ chosen_by c a b }
 {
     let n = c?;
-    if n == 0 {
-        b
-    } else {
-        a
-    }
+    if n == 0 { b } else { a }
 }

@@ -9,18 +9,22 @@ ghost use Rattle.ir_model.specs.Run.{run_of};
 
 mod accesses;
 mod addresses;
+mod blocks;
 mod bytes;
 mod environment;
+mod functions;
 mod lanes;
+mod noalias;
 mod pairing;
 mod slots;
 mod step;
 mod values;
 mod vectors;
 
+use functions::{function_at, run_func};
 use ir_model::{Memory, Outcome, Values};
 use ir_types::Module;
-use std::alloc::{AllocError, Global};
+use std::alloc::Global;
 use vx_list::OutOfMemory;
 
 /// The outcome of the function of a number, from 0 among the functions of the profile, on arguments and a memory, under a bound on
@@ -35,5 +39,8 @@ pub fn run(
 ) -> Result<Outcome, OutOfMemory>
     ensures { IfOk result (λ outcome. outcome ≡ run_of m.now func args.now memory bound) }
 {
-    Err(AllocError)
+    match function_at(m.items.as_slice(), func) {
+        Some(found) => run_func(alloc, m.globals.len(), found, args, memory, bound),
+        None => Ok(Outcome::Undefined),
+    }
 }

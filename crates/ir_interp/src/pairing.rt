@@ -16,16 +16,9 @@ use vx_num::{BinOp, Flags, Lane, Pred};
 #[derive(Clone, Copy)]
 pub(crate) enum Pairing {
     /// A binary operation at a width.
-    Bin {
-        op: BinOp,
-        flags: Flags,
-        w: u8,
-    },
+    Bin { op: BinOp, flags: Flags, w: u8 },
     /// A comparison at a width.
-    Cmp {
-        pred: Pred,
-        w: u8,
-    },
+    Cmp { pred: Pred, w: u8 },
     /// What a condition chooses.
     Choice(Lane),
 }

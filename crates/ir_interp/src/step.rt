@@ -58,9 +58,19 @@ fn result_of(
         (Op::Extract, Ty::Int(_), [vector, _]) => Ok(extract_value(*vector, values)),
         (Op::Insert, _, _) => insert_value(alloc, ty, values),
         (Op::Shuffle { mask }, Ty::Row { .. }, [vector, _]) => shuffle_value(
-            alloc, mask.as_slice(), *vector, values,
+            alloc,
+            mask.as_slice(),
+            *vector,
+            values,
         ),
-        (Op::Gep { elem, inbounds: false }, _, _) => Ok(address_value(*elem, ty, types, values)),
+        (
+            Op::Gep {
+                elem,
+                inbounds: false,
+            },
+            _,
+            _,
+        ) => Ok(address_value(*elem, ty, types, values)),
         _ => Ok(None),
     }
 }
@@ -87,9 +97,10 @@ fn effect_of(
     ensures { IfOk result (λ effect. effect_in effect memory.new ≡ effect_of op.now ty types.now values.now memory.old) }
 {
     match op {
-        Op::Gep { elem, inbounds: true } => Ok(value_effect(inbounds_value(
-            *elem, ty, types, values, memory,
-        ))),
+        Op::Gep {
+            elem,
+            inbounds: true,
+        } => Ok(value_effect(inbounds_value(*elem, ty, types, values, memory))),
         Op::Load { align } => Ok(load(alloc, *align, ty, values, memory)?),
         Op::Store { align } => Ok(store(alloc, *align, ty, values, memory)?),
         Op::Alloca { elem, .. } => Ok(allocated(alloc, *elem, ty, values, memory)?),
@@ -126,7 +137,11 @@ fn store(
     match values {
         [value, p] => {
             let defined = typed_store(alloc, align, ty, value, pointer_of(p), memory)?;
-            Ok(if defined { Effect::Nothing } else { Effect::Undefined })
+            Ok(if defined {
+                Effect::Nothing
+            } else {
+                Effect::Undefined
+            })
         }
         _ => Ok(Effect::Undefined),
     }
@@ -161,7 +176,12 @@ pub(crate) fn step(
     let values = state.env.values_of(alloc, opds)?;
     let opd_types = types.types_of(alloc, opds)?;
     let effect = effect_of(
-        alloc, &inst.op, inst.ty, opd_types.as_slice(), values.as_slice(), &mut state.memory,
+        alloc,
+        &inst.op,
+        inst.ty,
+        opd_types.as_slice(),
+        values.as_slice(),
+        &mut state.memory,
     )?;
     match effect {
         Effect::Undefined => Ok(false),

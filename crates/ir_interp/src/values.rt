@@ -79,7 +79,9 @@ fn paired(
             None => Ok(None),
         },
         (Ty::Row { .. }, [Value::Row(left), Value::Row(right)]) => Ok(row(by.each_pair(
-            alloc, left.as_slice(), right.as_slice(),
+            alloc,
+            left.as_slice(),
+            right.as_slice(),
         )?)),
         _ => Ok(None),
     }
@@ -106,7 +108,12 @@ pub(crate) fn cast_value(
             op, nneg, source, target, *a,
         )))),
         (Ty::Row { .. }, [Value::Row(lanes)]) => Ok(Some(Value::Row(cast_lanes(
-            alloc, op, nneg, source, target, lanes.as_slice(),
+            alloc,
+            op,
+            nneg,
+            source,
+            target,
+            lanes.as_slice(),
         )?))),
         _ => Ok(None),
     }
@@ -141,14 +148,23 @@ pub(crate) fn select_value(
     ensures { IfOk result (λ value. value ≡ select_value ty values.now) }
 {
     match (ty, values) {
-        (Ty::Int(_), [Value::Lane(c), Value::Lane(a), Value::Lane(b)]) => Ok(Some(Value::Lane(chosen_by(*c, *a, *b)))),
-        (Ty::Ptr, [Value::Lane(c), Value::Ptr(p), Value::Ptr(q)]) => Ok(Some(Value::Ptr(chosen_by(*c, *p, *q)))),
-        (Ty::Row { .. }, [Value::Lane(c), Value::Row(left), Value::Row(right)]) => Ok(row(Pairing::Choice(*c).each_pair(
-            alloc, left.as_slice(), right.as_slice(),
-        )?)),
-        (Ty::Row { .. }, [Value::Row(conditions), Value::Row(left), Value::Row(right)]) => Ok(row(chosen_lanes(
-            alloc, conditions.as_slice(), left.as_slice(), right.as_slice(),
-        )?)),
+        (Ty::Int(_), [Value::Lane(c), Value::Lane(a), Value::Lane(b)]) => Ok(Some(Value::Lane(
+            chosen_by(*c, *a, *b),
+        ))),
+        (Ty::Ptr, [Value::Lane(c), Value::Ptr(p), Value::Ptr(q)]) => Ok(Some(Value::Ptr(chosen_by(
+            *c, *p, *q,
+        )))),
+        (Ty::Row { .. }, [Value::Lane(c), Value::Row(left), Value::Row(right)]) => Ok(row(
+            Pairing::Choice(*c).each_pair(alloc, left.as_slice(), right.as_slice())?,
+        )),
+        (Ty::Row { .. }, [Value::Row(conditions), Value::Row(left), Value::Row(right)]) => Ok(row(
+            chosen_lanes(
+                alloc,
+                conditions.as_slice(),
+                left.as_slice(),
+                right.as_slice(),
+            )?,
+        )),
         _ => Ok(None),
     }
 }

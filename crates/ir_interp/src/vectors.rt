@@ -48,9 +48,7 @@ pub(crate) fn insert_value(
     match (ty, values) {
         (Ty::Row { n, .. }, [Value::Row(lanes), Value::Lane(lane), Value::Lane(index)]) => {
             if lanes.len() == usize::from(n) {
-                Ok(Some(Value::Row(with_lane_at(
-                    alloc, lanes.as_slice(), *lane, *index,
-                )?)))
+                Ok(Some(Value::Row(with_lane_at(alloc, lanes.as_slice(), *lane, *index)?)))
             } else {
                 Ok(None)
             }
@@ -60,12 +58,7 @@ pub(crate) fn insert_value(
 }
 
 /// The lanes with one replaced; all poison where the index is.
-fn with_lane_at(
-    alloc: Global,
-    lanes: &[Lane],
-    lane: Lane,
-    index: Lane,
-) -> Result<Lits, OutOfMemory>
+fn with_lane_at(alloc: Global, lanes: &[Lane], lane: Lane, index: Lane) -> Result<Lits, OutOfMemory>
     ensures { IfOk result (λ done. done ≡ with_lane_at lanes.now lane index) }
 {
     match index {
@@ -75,12 +68,7 @@ fn with_lane_at(
 }
 
 /// The lanes with the one at a place replaced.
-fn replaced(
-    alloc: Global,
-    lanes: &[Lane],
-    at: usize,
-    lane: Lane,
-) -> Result<Lits, OutOfMemory>
+fn replaced(alloc: Global, lanes: &[Lane], at: usize, lane: Lane) -> Result<Lits, OutOfMemory>
     requires { at < length lanes.now }
     ensures { IfOk result (λ done. done ≡ slice_set lanes.now at lane) }
 {
@@ -124,9 +112,7 @@ pub(crate) fn shuffle_value(
     match (ty, values) {
         (Ty::Row { n, .. }, [Value::Row(left), Value::Row(right)]) => {
             if left.len() == usize::from(n) && right.len() == usize::from(n) {
-                Ok(Some(Value::Row(shuffled(
-                    alloc, mask, left.as_slice(), right.as_slice(),
-                )?)))
+                Ok(Some(Value::Row(shuffled(alloc, mask, left.as_slice(), right.as_slice())?)))
             } else {
                 Ok(None)
             }

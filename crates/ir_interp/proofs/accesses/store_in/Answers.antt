@@ -10,6 +10,6 @@ returns c =
     c.args.bytes.now c.in-Some.object.now c.replace-written.result c.put.new.object
     c.in-Some.ensures
     (c.in-Some-place_of.ensures.value
-      ∙ ap (λ o. place_of o (length c.args.bytes.now) c.args.align c.len.result) (to_z-of_z w64 c.args.offset c.ranges.offset)
-      ∙ ap (place_of c.args.offset (length c.args.bytes.now) c.args.align) c.len.ensures)
+    ∙ ap (λ o. place_of o (length c.args.bytes.now) c.args.align c.len.result) (to_z-of_z w64 c.args.offset c.ranges.offset)
+    ∙ ap (place_of c.args.offset (length c.args.bytes.now) c.args.align) c.len.ensures)
     c.replace-written.ensures.was (c.replace-written.ensures.now ∙ ap (slice_set c.args.memory.now c.args.number) c.new.ensures) c.put.ensures c.replace.ensures.now
