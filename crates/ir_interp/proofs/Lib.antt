@@ -7,3 +7,4 @@ mod Writes
 mod Items
 mod Steps
 mod Edges
+mod Alone

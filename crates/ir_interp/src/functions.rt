@@ -13,7 +13,7 @@ use crate::environment::{Environment, Types};
 use crate::noalias::noalias_holds;
 use crate::step::State;
 use ir_model::{Memory, Outcome, Values};
-use ir_types::{Block, Func, Item};
+use ir_types::{Blocks, Func, Item};
 use std::alloc::Global;
 use vx_list::OutOfMemory;
 
@@ -45,7 +45,7 @@ fn memory_of(state: State) -> Memory
 fn run_blocks(
     alloc: Global,
     types: &Types,
-    blocks: &[Block],
+    blocks: &Blocks,
     bound: u64,
     start: State,
 ) -> Result<Outcome, OutOfMemory>
@@ -83,17 +83,10 @@ pub(crate) fn run_func(
 ) -> Result<Outcome, OutOfMemory>
     ensures { IfOk result (λ outcome. outcome ≡ run_func globals func.now args.now memory bound) }
 {
-    let params = func.params.as_slice();
-    if !noalias_holds(globals, params, args) {
+    if !noalias_holds(globals, &func.params, args.as_slice()) {
         return Ok(Outcome::Undefined);
     }
     let types = Types::of(alloc, func)?;
-    let env = Environment::start(alloc, params, args)?;
-    run_blocks(
-        alloc,
-        &types,
-        func.blocks.as_slice(),
-        bound,
-        State { env, memory },
-    )
+    let env = Environment::start(alloc, func.params.as_slice(), args)?;
+    run_blocks(alloc, &types, &func.blocks, bound, State { env, memory })
 }

@@ -2,12 +2,13 @@
 //!
 //! Nothing here fails. The time grows with the number of `noalias` parameters times that of arguments.
 
-ghost use Rattle.std.specs.Prelude.{◌≡◌, ◌++◌, []};
+ghost use Rattle.std.specs.Prelude.{◌≡◌, ◌+◌, ◌<◌, not, ◌||◌, Some, ◌++◌, [], drop, length, reverse, slice_get, take};
 ghost use Rattle.std.specs.List.{list_any};
+ghost use Rattle.ir_model.specs.declared.value.Value.{Value};
 ghost use Rattle.ir_model.specs.Run.{names, is_unshared, noalias_holds};
 
-use ir_model::{Value, Values};
-use ir_types::Param;
+use ir_model::Value;
+use ir_types::Params;
 
 /// Whether a pointer names the object.
 fn names(object: u32, value: &Value) -> bool
@@ -45,16 +46,24 @@ fn is_unshared(globals: usize, value: &Value, before: &[Value], behind: &[Value]
     }
 }
 
+/// Whether the argument at a place is alone, where its parameter is `noalias`.
+fn holds_at(globals: usize, noalias: bool, args: &[Value], at: usize) -> bool
+    requires { at < length args.now }
+    ensures { (value : Value) → slice_get args.now at ≡ Some value
+        → result ≡ (not noalias || is_unshared globals value (reverse (take at args.now) ++ drop (at + 1) args.now)) }
+{
+    !noalias || is_unshared(globals, &args[at], &args[..at], &args[at + 1..])
+}
+
 /// Whether each `noalias` argument is alone (Language Reference, "Parameter Attributes").
-pub(crate) fn noalias_holds(globals: usize, params: &[Param], args: &Values) -> bool
+pub(crate) fn noalias_holds(globals: usize, params: &Params, args: &[Value]) -> bool
     ensures { result ≡ noalias_holds globals [] params.now args.now }
 {
-    let values = args.as_slice();
-    for i in 0..params.len() {
-        let Some(value) = args.get(i) else {
+    for i in 0..args.len() {
+        let Some(param) = params.get(i) else {
             return true;
         };
-        if params[i].noalias && !is_unshared(globals, value, &values[..i], &values[i + 1..]) {
+        if !holds_at(globals, param.noalias, args, i) {
             return false;
         }
     }
