@@ -1,6 +1,10 @@
 -- Why what is printed is read again.
 pub mod Parts
+pub mod PartsBlocks
+pub mod PartsFlags
 pub mod PartsLiterals
+pub mod PartsMemory
+pub mod PartsOperands
 pub mod PartsTypes
 pub mod Words
 pub mod WordsNames

@@ -236,7 +236,7 @@ vector_cut n w ls h many all = here (list_all is_poison ls) (list_all is_zero ls
   here false true ep ez = let same : ls ≡ replicate n (Some 0) = zeros ls ez ∙ ap (λ (k : ℕ). replicate k (Some 0)) many in rw same (zero_cut n w)
   here false false ep ez = listed ls many all ep
 
-row_lanes_cut : (n w : ℕ) (ls : List (Option ℕ)) → is_width w ≡ true → length ls ≡ n → All (IsLane w) ls → Cut (SpellsLanes (Row n w) ls) (vector_text w ls)
+pub row_lanes_cut : (n w : ℕ) (ls : List (Option ℕ)) → is_width w ≡ true → length ls ≡ n → All (IsLane w) ls → Cut (SpellsLanes (Row n w) ls) (vector_text w ls)
 row_lanes_cut n w ls h many all =
     let cut : Cut (SpellsRow n w ls) (vector_text w ls) = vector_cut n w ls h many all in
     record { plain = cut.plain; takes = λ rest stop. Lanes n w ls _ (texts rest) (cut.takes rest stop) }

@@ -117,7 +117,7 @@ row_plain n w r =
     let width : list_all is_plain (decimal w) ≡ true = run_plain (decimal w) (small_run w (width_small w r.width)) in
     plain_append (decimal n) (codes " x i" ++ (decimal w ++ codes ">")) count (plain_append (decimal w) (codes ">") width refl)
 
-row_cut : (n w : ℕ) → IsRow n w → Cut (SpellsTy (Row n w)) (row_text n w)
+pub row_cut : (n w : ℕ) → IsRow n w → Cut (SpellsTy (Row n w)) (row_text n w)
 row_cut n w r = record {
   plain = row_plain n w r;
   takes = λ rest stop. rw (row_words n w r rest) (Vector n w (decimal n) (int_text w) (texts rest) (count_read n r.count) (int_read w r.width) (row_read n w r));
