@@ -1,4 +1,6 @@
 -- Why what is printed is read again.
+pub mod Insts
+pub mod InstsMemory
 pub mod Parts
 pub mod PartsBlocks
 pub mod PartsFlags

@@ -40,6 +40,16 @@ pub colon_texts : (rest : List ℕ) → texts (58 ∷ rest) ≡ codes ":" ∷ te
 unfolding texts more_len is_blank is_sigil is_mark is_word_byte begins_name
 colon_texts rest = refl
 
+-- what stops a word
+
+pub space_stops : (rest : List ℕ) → stops (32 ∷ rest) ≡ true
+unfolding is_word_byte begins_name
+space_stops rest = refl
+
+pub comma_stops : (rest : List ℕ) → stops (44 ∷ rest) ≡ true
+unfolding is_word_byte begins_name
+comma_stops rest = refl
+
 -- parts
 
 -- these bytes are of a printed line, and in front of what stops them their words are a spelling by P

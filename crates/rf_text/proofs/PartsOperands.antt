@@ -21,8 +21,8 @@ use Rattle.ir_line.specs.declared.written.Written.{Written}
 use Rattle.ir_line.specs.declared.written.Written.TheVariants as opds
 use Rattle.ir_line.specs.Kinds.{fits, is_pointer}
 use Rattle.ir_line.specs.Words.{Words}
-use Rattle.ir_line.specs.Pieces.{SpellsOperand, Named as NamedOpd, Global, Literal as LiteralOpd, SpellsTyped}
-use Rattle.ir_line.specs.Forms.{arg}
+use Rattle.ir_line.specs.Pieces.{SpellsOperand, Named as NamedOpd, Global, Literal as LiteralOpd, SpellsTyped, Bare, Other, Typed, Also}
+use Rattle.ir_line.specs.Forms.{Slot, slot, arg}
 use Rattle.ir_line.proofs.Steps.{nothing, some_is}
 use Rattle.ir_print.specs.declared.names.Local.{Local}
 use Rattle.ir_print.specs.Literals.{ty_text}
@@ -30,9 +30,9 @@ use Rattle.ir_print.specs.Names.{Names, local_of, last_of, same_id}
 use Rattle.ir_print.specs.Operands.{opd_text, opd_ty, local_text, local_ty, global_text, typed_text}
 use Rattle.rf_text.specs.Shown.{Shown, IsLocalName, shown_ty, IsPoisonIfPointer}
 use Rattle.rf_text.specs.Written.{written, shown_text, shown_global}
-use Rattle.rf_text.proofs.Words.{Taken, is_plain, plain_append}
+use Rattle.rf_text.proofs.Words.{Taken, is_plain, plain_append, Told}
 use Rattle.rf_text.proofs.WordsNames.{Named, local_named, local_texts, run_is_plain, symbol_texts, symbol_read, symbol_plain}
-use Rattle.rf_text.proofs.Parts.{Cut}
+use Rattle.rf_text.proofs.Parts.{Cut, told_part, told_last, led_cut, comma_stops}
 use Rattle.rf_text.proofs.PartsTypes.{ty_cut, kind_cut}
 use Rattle.rf_text.proofs.PartsLiterals.{lits_cut}
 
@@ -100,15 +100,43 @@ operand ns gs t (Lit literal) shown is pointer e = subst (λ (u : Ty). Operand n
 operand ns gs t (Sym g) shown is pointer e = global_operand ns gs t g shown e
 
 -- the same behind its type, which is of a kind
-pub typed_cut : (ns : Names) (gs : List (List ℕ)) (k : Taken fits) (t : Ty) (o : Opd) → is_value t ≡ true → fits k t ≡ true → Operand ns gs t o → Cut (SpellsTyped k (arg t (written ns gs o))) (typed_text ns gs o)
+pub arg_cut : (ns : Names) (gs : List (List ℕ)) (k : Taken fits) (t : Ty) (o : Opd) → is_value t ≡ true → fits k t ≡ true → Operand ns gs t o → Cut (SpellsTyped k (arg t (written ns gs o))) (ty_text t ++ (32 ∷ opd_text ns gs o))
 unfolding is_control is_word_byte begins_name
-typed_cut ns gs k t o value fit is = rw is.type here where
-  here : Cut (SpellsTyped k (arg t (written ns gs o))) (ty_text t ++ (32 ∷ opd_text ns gs o))
-  here = record {
-    plain = plain_append (ty_text t) (32 ∷ opd_text ns gs o) (kind_cut k t value fit).plain is.cut.plain;
-    takes = λ rest stop. rw (append_assoc (ty_text t) (32 ∷ opd_text ns gs o) rest) (record {
-      behind = texts (32 ∷ (opd_text ns gs o ++ rest));
-      type = (kind_cut k t value fit).takes (32 ∷ (opd_text ns gs o ++ rest)) refl;
-      operand = rw (texts_space (opd_text ns gs o ++ rest)) (is.cut.takes rest stop);
-    });
-  }
+arg_cut ns gs k t o value fit is = record {
+  plain = plain_append (ty_text t) (32 ∷ opd_text ns gs o) (kind_cut k t value fit).plain is.cut.plain;
+  takes = λ rest stop. rw (append_assoc (ty_text t) (32 ∷ opd_text ns gs o) rest) (record {
+    behind = texts (32 ∷ (opd_text ns gs o ++ rest));
+    type = (kind_cut k t value fit).takes (32 ∷ (opd_text ns gs o ++ rest)) refl;
+    operand = rw (texts_space (opd_text ns gs o ++ rest)) (is.cut.takes rest stop);
+  });
+}
+
+pub typed_cut : (ns : Names) (gs : List (List ℕ)) (k : Taken fits) (t : Ty) (o : Opd) → is_value t ≡ true → fits k t ≡ true → Operand ns gs t o → Cut (SpellsTyped k (arg t (written ns gs o))) (typed_text ns gs o)
+typed_cut ns gs k t o value fit is = rw is.type (arg_cut ns gs k t o value fit is)
+
+-- an operand and what follows it, with its type and without, in front of which a comma may stand
+module _ (ns : Names) (gs : List (List ℕ)) where
+  pub told_arg : (k : Taken fits) (t : Ty) (o : Opd) {rest : List ℕ} {ss : List Slot} → is_value t ≡ true → fits k t ≡ true → Operand ns gs t o → stops rest ≡ true → Told ss rest →
+      Told (slot (Typed k) (arg t (written ns gs o)) ∷ ss) (ty_text t ++ (32 ∷ (opd_text ns gs o ++ rest)))
+  told_arg k t o {rest} {ss} value fit is stop told =
+      subst (Told (slot (Typed k) (arg t (written ns gs o)) ∷ ss)) (append_assoc (ty_text t) (32 ∷ opd_text ns gs o) rest) (told_part (Typed k) (arg t (written ns gs o)) (arg_cut ns gs k t o value fit is) stop told)
+
+  pub told_typed : (k : Taken fits) (t : Ty) (o : Opd) {rest : List ℕ} {ss : List Slot} → is_value t ≡ true → fits k t ≡ true → Operand ns gs t o → stops rest ≡ true → Told ss rest →
+      Told (slot (Typed k) (arg t (written ns gs o)) ∷ ss) (typed_text ns gs o ++ rest)
+  told_typed k t o value fit is stop told = told_part (Typed k) (arg t (written ns gs o)) (typed_cut ns gs k t o value fit is) stop told
+
+  pub told_also : (k : Taken fits) (t : Ty) (o : Opd) {rest : List ℕ} {ss : List Slot} → is_value t ≡ true → fits k t ≡ true → Operand ns gs t o → stops rest ≡ true → Told ss rest →
+      Told (slot (Also k) (arg t (written ns gs o)) ∷ ss) (codes ", " ++ (typed_text ns gs o ++ rest))
+  told_also k t o value fit is stop told = told_part (Also k) (arg t (written ns gs o)) (led_cut (typed_cut ns gs k t o value fit is)) stop told
+
+  -- the last operand of a line
+  pub told_also_last : (k : Taken fits) (t : Ty) (o : Opd) → is_value t ≡ true → fits k t ≡ true → Operand ns gs t o → Told (slot (Also k) (arg t (written ns gs o)) ∷ []) (codes ", " ++ typed_text ns gs o)
+  told_also_last k t o value fit is = told_last (Also k) (arg t (written ns gs o)) (led_cut (typed_cut ns gs k t o value fit is))
+
+  pub told_pointer : (k : Taken fits) (o : Opd) {rest : List ℕ} {ss : List Slot} → fits k Ptr ≡ true → Operand ns gs Ptr o → stops rest ≡ true → Told ss rest →
+      Told (slot (Also k) (arg Ptr (written ns gs o)) ∷ ss) (codes ", ptr " ++ (opd_text ns gs o ++ rest))
+  told_pointer k o {rest} fit is stop told = told_part (Also k) (arg Ptr (written ns gs o)) {bs = 44 ∷ 32 ∷ (codes "ptr" ++ (32 ∷ opd_text ns gs o))} (led_cut (arg_cut ns gs k Ptr o refl fit is)) stop told
+
+  -- two operands of one type, which is not written
+  pub told_two : (t : Ty) (a b : Opd) → Operand ns gs t a → Operand ns gs t b → Told (slot (Bare t) (written ns gs a) ∷ slot (Other t) (written ns gs b) ∷ []) (opd_text ns gs a ++ (codes ", " ++ opd_text ns gs b))
+  told_two t a b is js = told_part (Bare t) (written ns gs a) is.cut (comma_stops (32 ∷ opd_text ns gs b)) (told_last (Other t) (written ns gs b) (led_cut js.cut))
