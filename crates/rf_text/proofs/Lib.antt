@@ -1,6 +1,9 @@
 -- Why what is printed is read again.
 pub mod Insts
 pub mod InstsMemory
+pub mod InstsSteps
+pub mod InstsValues
+pub mod InstsVectors
 pub mod Parts
 pub mod PartsBlocks
 pub mod PartsFlags

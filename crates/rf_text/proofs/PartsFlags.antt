@@ -22,6 +22,7 @@ use Rattle.ir_line.specs.Pieces as pieces
 use Rattle.ir_line.specs.Forms.{Slot, slot, Spell, flags_of, bin_flags, cast_flags}
 use Rattle.ir_line.proofs.Steps.{apart}
 use Rattle.ir_print.specs.Instructions.{flag_text, wrap_flags, flags_text}
+use Rattle.rf_text.proofs.Parts.{space_stops}
 use Rattle.rf_text.proofs.Words.{Taken, is_plain, plain_append, Told, is_run, run_texts}
 
 -- a word that is no flag
@@ -122,6 +123,7 @@ no_more set refuses (_ ∷ _) (Begins w ws n) word more e = let same : w ≡ wor
 pub record FlagsText (set : Taken allows) (fs : Words) (bs : List ℕ) : Type 0 where
   pub plain : list_all is_plain bs ≡ true
   pub words : (rest : List ℕ) → texts (bs ++ (32 ∷ rest)) ≡ fs ++ texts rest
+  pub stopped : (rest : List ℕ) → stops (bs ++ (32 ∷ rest)) ≡ true
   pub of_set : list_all (allows set) fs ≡ true
   pub once : is_distinct fs ≡ true
 
@@ -146,13 +148,13 @@ unfolding is_word_byte begins_name
 spaced_end w rest h = spaced_words w (32 ∷ rest) h refl ∙ ap (λ (ws : Words). w ∷ ws) (texts_space rest)
 
 pub no_flags : (set : Taken allows) → FlagsText set [] []
-no_flags set = record { plain = refl; words = texts_space; of_set = refl; once = refl }
+no_flags set = record { plain = refl; words = texts_space; stopped = space_stops; of_set = refl; once = refl }
 
 -- a set of a flag that is printed
 pub one_flag : (set : Taken allows) (w : List ℕ) (b : Bool) → is_run w ≡ true → list_all is_plain w ≡ true → allows set w ≡ true → FlagsText set (flag_word b w) (flag_text b w)
 unfolding is_control
 one_flag set w false h plain of_set = no_flags set
-one_flag set w true h plain of_set = record { plain = plain; words = λ rest. spaced_end w rest h; of_set = rw of_set refl; once = refl }
+one_flag set w true h plain of_set = record { plain = plain; words = λ rest. spaced_end w rest h; stopped = λ rest. space_stops (w ++ (32 ∷ rest)); of_set = rw of_set refl; once = refl }
 
 abbrev wrap_words : Bool → Bool → Words
 wrap_words nuw nsw = flag_word nuw (codes "nuw") ++ flag_word nsw (codes "nsw")
@@ -160,11 +162,12 @@ wrap_words nuw nsw = flag_word nuw (codes "nuw") ++ flag_word nsw (codes "nsw")
 wrap_text : (nuw nsw : Bool) → FlagsText (bin_flags bin.Add) (wrap_words nuw nsw) (flag_text nuw (codes "nuw") ++ flag_text nsw (codes "nsw"))
 unfolding is_control is_word_byte begins_name
 wrap_text false false = no_flags _
-wrap_text true false = record { plain = refl; words = λ rest. spaced_end (codes "nuw") rest refl; of_set = refl; once = refl }
-wrap_text false true = record { plain = refl; words = λ rest. spaced_end (codes "nsw") rest refl; of_set = refl; once = refl }
+wrap_text true false = record { plain = refl; words = λ rest. spaced_end (codes "nuw") rest refl; stopped = λ rest. refl; of_set = refl; once = refl }
+wrap_text false true = record { plain = refl; words = λ rest. spaced_end (codes "nsw") rest refl; stopped = λ rest. refl; of_set = refl; once = refl }
 wrap_text true true = record {
   plain = refl;
   words = λ rest. spaced_words (codes "nuw") (codes " nsw " ++ rest) refl refl ∙ ap (λ (ws : Words). codes "nuw" ∷ ws) (spaced_end (codes "nsw") rest refl);
+  stopped = λ rest. refl;
   of_set = refl;
   once = refl;
 }
@@ -287,3 +290,8 @@ cast_flags_text op nneg (inr zext) = rw zext (one_flag (cast_flags cast.Zext) (c
 pub flag_has : (b : Bool) (w : List ℕ) → bytes_eq w w ≡ true → has w (flag_word b w) ≡ b
 flag_has true w same = rw same refl
 flag_has false w same = refl
+
+pub flag_stops : (b : Bool) (w rest : List ℕ) → stops (flag_text b w ++ (32 ∷ rest)) ≡ true
+unfolding is_word_byte begins_name
+flag_stops true w rest = refl
+flag_stops false w rest = refl
