@@ -1,5 +1,6 @@
 -- Why what is printed is read again.
 pub mod Insts
+pub mod InstsFlow
 pub mod InstsMemory
 pub mod InstsSteps
 pub mod InstsValues
