@@ -1,5 +1,6 @@
 -- Instructions as they are printed: the line of each form, in front of which its result may stand.
 use Rattle.std.proofs.Common.{◌≡◌, ℕ, Bool, true, false, cond, ◌&&◌, List, [], ◌∷◌, ◌++◌, map, Option, Some, None, refl, sym, ◌∙◌, ap, subst, codes, append_assoc}
+use Rattle.std.proofs.lemmas.List.{map-append}
 use Rattle.std.proofs.lemmas.List.Elements.{All-head, All-tail}
 use Rattle.std.specs.List.{list_all, All}
 use Rattle.ir_types.specs.declared.id.Id.{Id}
@@ -36,6 +37,18 @@ use Rattle.rf_text.proofs.PartsOperands.{Operand, operand}
 -- a text that is one line of a form
 pub one_line : (f : Form) (line : List ℕ) {text : List ℕ} {forms : List Line} → text ≡ line ++ codes "\n" → forms ≡ line_of f ∷ [] → Told (slots f) line → Printed text forms
 one_line f line whole same told = record { lines = line ∷ []; whole = whole; each = rw same (ap (λ (o : Option Line). o ∷ []) (line_read f line told)) }
+
+joined_append : (ls ms : List (List ℕ)) → joined (ls ++ ms) ≡ joined ls ++ joined ms
+joined_append [] ms = refl
+joined_append (l ∷ ls) ms = rw (joined_append ls ms) (sym (append_assoc l (10 ∷ joined ls) (joined ms)))
+
+-- lines behind lines
+pub printed_append : {a b : List ℕ} {fs gs : List Line} → Printed a fs → Printed b gs → Printed (a ++ b) (fs ++ gs)
+printed_append {a} {b} {fs} {gs} p q = record {
+  lines = p.lines ++ q.lines;
+  whole = rw (p.whole, q.whole) (sym (joined_append p.lines q.lines));
+  each = rw (map-append (form_in true) p.lines q.lines, map-append Some fs gs, p.each, q.each) refl;
+}
 
 pub indented : {ss : List Slot} {bs : List ℕ} → Told ss bs → Told ss (codes "  " ++ bs)
 indented told = told_space (told_space told)

@@ -3,6 +3,7 @@ pub mod Insts
 pub mod InstsFlow
 pub mod InstsMemory
 pub mod InstsSteps
+pub mod InstsSwitch
 pub mod InstsValues
 pub mod InstsVectors
 pub mod Parts
