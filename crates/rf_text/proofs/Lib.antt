@@ -1,6 +1,8 @@
 -- Why what is printed is read again.
 pub mod Insts
+pub mod InstsAll
 pub mod InstsFlow
+pub mod InstsLabels
 pub mod InstsMemory
 pub mod InstsSteps
 pub mod InstsSwitch
