@@ -1,8 +1,8 @@
 -- Instructions as they are printed: the line of each form, in front of which its result may stand.
-use Rattle.std.proofs.Common.{◌≡◌, ℕ, Bool, true, false, cond, ◌&&◌, List, [], ◌∷◌, ◌++◌, map, Option, Some, None, refl, sym, ◌∙◌, ap, subst, codes, append_assoc}
+use Rattle.std.proofs.Common.{◌≡◌, ℕ, true, false, List, [], ◌∷◌, ◌++◌, map, Option, Some, refl, sym, ◌∙◌, ap, codes, append_assoc}
 use Rattle.std.proofs.lemmas.List.{map-append}
 use Rattle.std.proofs.lemmas.List.Elements.{All-head, All-tail}
-use Rattle.std.specs.List.{list_all, All}
+use Rattle.std.specs.List.{All}
 use Rattle.ir_types.specs.declared.id.Id.{Id}
 use Rattle.ir_types.specs.declared.ty.Ty.{Ty}
 use Rattle.ir_types.specs.declared.ty.Ty.TheVariants.{Void, Int, Ptr, Row}
@@ -17,9 +17,8 @@ use Rattle.ir_lex.proofs.Again.{stops, texts_space}
 use Rattle.ir_line.specs.declared.line.Line.{Line}
 use Rattle.ir_line.specs.Words.{Words}
 use Rattle.ir_line.specs.Values.{local_of as local_word, opcode_word, act_word}
-use Rattle.ir_line.specs.Pieces.{Value, Takes, Name, Code, ActCode, Says}
-use Rattle.ir_line.specs.Forms.{Form, Slot, slot, slots, word, Spell, line_of}
-use Rattle.ir_line.proofs.Steps.{nothing}
+use Rattle.ir_line.specs.Pieces.{Value, Name, Code, ActCode, Says}
+use Rattle.ir_line.specs.Forms.{Form, Slot, slot, slots, word, line_of}
 use Rattle.ir_print.specs.declared.names.Local.{Local}
 use Rattle.ir_print.specs.Names.{Names, local_of, is_store, is_void}
 use Rattle.ir_print.specs.Instructions.{inst_text, act_text, result_text}
@@ -27,7 +26,7 @@ use Rattle.ir_read.specs.Forms.{form_in}
 use Rattle.rf_text.specs.Shown.{Shown, shown_ty, IsPoisonIfPointer}
 use Rattle.rf_text.specs.Written.{forms_of}
 use Rattle.rf_text.specs.Printed.{joined, Printed}
-use Rattle.rf_text.proofs.Words.{is_plain, Told, line_read, is_run, run_texts}
+use Rattle.rf_text.proofs.Words.{Told, line_read, is_run}
 use Rattle.rf_text.proofs.WordsNames.{Named, local_texts, run_is_plain}
 use Rattle.rf_text.proofs.Parts.{Cut, told_part, told_space, word_cut, equals_texts, space_stops}
 use Rattle.rf_text.proofs.PartsOperands.{Operand, operand}

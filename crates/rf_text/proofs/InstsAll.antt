@@ -1,5 +1,5 @@
 -- Each instruction but a call is read again as it is printed.
-use Rattle.std.proofs.Common.{◌≡◌, ℕ, true, false, List, Option, refl}
+use Rattle.std.proofs.Common.{ℕ, true, List, Option, refl}
 use Rattle.ir_types.specs.declared.id.Id.{Id}
 use Rattle.ir_types.specs.declared.ty.Ty.{Ty}
 use Rattle.ir_types.specs.declared.opd.Opd.{Opd}

@@ -1,24 +1,23 @@
 -- Operations on the flow of control as they are printed, but the switch; and labels and braces.
-use Rattle.std.proofs.Common.{◌≡◌, ℕ, ◌<◌, ◌⊎◌, inl, inr, Bool, true, false, cond, ◌&&◌, arith, List, [], ◌∷◌, ◌++◌, map, length, nat_eq, Option, Some, None, refl, sym, ◌∙◌, ap, subst, codes, append_assoc}
+use Rattle.std.proofs.Common.{◌≡◌, ℕ, ◌<◌, ◌⊎◌, inl, inr, true, false, List, [], ◌∷◌, ◌++◌, map, length, Option, Some, refl, ◌∙◌, ap, codes}
 use Rattle.std.proofs.lemmas.List.Elements.{All-head, All-tail, All-nil, All-cons, All-weaker}
 use Rattle.std.proofs.lemmas.List.{length-map}
 use Rattle.std.specs.List.{All}
-use Rattle.std.specs.Fmt.{decimal, digits}
+use Rattle.std.specs.Fmt.{digits}
 use Rattle.ir_types.specs.declared.id.Id.{Id}
 use Rattle.ir_types.specs.declared.ty.Ty.{Ty}
-use Rattle.ir_types.specs.declared.ty.Ty.TheVariants.{Void, Int, Ptr, Row}
+use Rattle.ir_types.specs.declared.ty.Ty.TheVariants.{Void, Int}
 use Rattle.ir_types.specs.declared.opd.Opd.{Opd}
 use Rattle.ir_types.specs.declared.op.Op.TheVariants as ops
 use Rattle.ir_types.specs.Typed.{is_value}
 use Rattle.ir_types.specs.Formed.{IsOpd}
-use Rattle.ir_lex.specs.Bytes.{is_word_byte, begins_name, is_control}
-use Rattle.ir_lex.proofs.Again.{stops}
+use Rattle.ir_lex.specs.Bytes.{is_word_byte, begins_name}
 use Rattle.ir_line.specs.declared.written.Arg.{Arg}
 use Rattle.ir_line.specs.Forms as forms
 use Rattle.ir_line.specs.Forms.{Slot, slot, slots, arg}
 use Rattle.ir_print.specs.declared.names.Local.{Local}
 use Rattle.ir_print.specs.Names.{Names, local_of, is_void}
-use Rattle.ir_print.specs.Operands.{opd_text, label_text}
+use Rattle.ir_print.specs.Operands.{label_text}
 use Rattle.ir_print.specs.Instructions.{act_text}
 use Rattle.rf_text.specs.Shown.{Shown, Fits, shown_ty, IsPoisonIfPointer}
 use Rattle.rf_text.specs.Written.{written, arg_of, shown_block}
@@ -28,7 +27,7 @@ use Rattle.rf_text.proofs.Parts.{told_part, told_last, told_end, told_space, tol
 use Rattle.rf_text.proofs.PartsTypes.{kind_cut}
 use Rattle.rf_text.proofs.PartsBlocks.{Block, block, target_cut, incoming, told_pairs}
 use Rattle.rf_text.proofs.PartsOperands.{Operand, operand, shown_named, typed_cut, told_arg}
-use Rattle.rf_text.proofs.Insts.{value_line, act_line, told_result, told_code, told_act, operands, with_none, with_one, value_no_void, inst, Reads, heads, tails}
+use Rattle.rf_text.proofs.Insts.{value_line, act_line, told_result, told_code, told_act, operands, with_none, with_one, value_no_void, inst, Reads}
 
 -- operands of one type
 all_operands : (ns : Names) (gs : List (List ℕ)) → Shown ns gs → (t : Ty) (os : List Opd) → All IsOpd os → All IsPoisonIfPointer os → All (λ u. u ≡ Some t) (map (shown_ty ns gs) os) → All (Operand ns gs t) os

@@ -1,5 +1,5 @@
 -- Labels, braces and empty lines are read again as they are printed.
-use Rattle.std.proofs.Common.{◌≡◌, ℕ, true, List, [], ◌∷◌, ◌++◌, Option, Some, None, refl, sym, ◌∙◌, ap, codes, append_assoc}
+use Rattle.std.proofs.Common.{◌≡◌, ℕ, true, List, [], ◌∷◌, ◌++◌, Option, Some, refl, sym, ◌∙◌, ap, codes, append_assoc}
 use Rattle.ir_lex.specs.Bytes.{is_word_byte, begins_name, is_digit, is_sigil, is_mark, is_blank, is_control}
 use Rattle.ir_lex.specs.Scan.{texts, cut, more_len}
 use Rattle.ir_lex.specs.Words.{word}

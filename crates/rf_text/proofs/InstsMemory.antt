@@ -1,33 +1,28 @@
 -- Operations on memory as they are printed: loads, stores, and what is made or stepped over.
-use Rattle.std.proofs.Common.{◌≡◌, ℕ, Bool, true, false, cond, ◌&&◌, List, [], ◌∷◌, ◌++◌, map, Option, Some, None, refl, sym, ◌∙◌, ap, subst, codes, append_assoc}
-use Rattle.std.specs.Fmt.{decimal}
+use Rattle.std.proofs.Common.{◌≡◌, ℕ, Bool, true, false, List, [], ◌∷◌, ◌++◌, map, Option, Some, None, refl, codes}
 use Rattle.ir_types.specs.declared.id.Id.{Id}
 use Rattle.ir_types.specs.declared.ty.Ty.{Ty}
-use Rattle.ir_types.specs.declared.ty.Ty.TheVariants.{Void, Int, Ptr, Row}
+use Rattle.ir_types.specs.declared.ty.Ty.TheVariants.{Ptr}
 use Rattle.ir_types.specs.declared.ty.Elem.{Elem}
-use Rattle.ir_types.specs.declared.ty.Elem.TheVariants.{One, Array}
+use Rattle.ir_types.specs.declared.ty.Elem.TheVariants.{One}
 use Rattle.ir_types.specs.declared.opd.Opd.{Opd}
-use Rattle.ir_types.specs.declared.op.Op.{Op}
 use Rattle.ir_types.specs.declared.op.Op.TheVariants as ops
 use Rattle.ir_types.specs.declared.inst.Inst.{Inst}
-use Rattle.ir_types.specs.Typed.{is_value, is_stored, IsAlign, IsAlignIfAny, IsElem, IsStep}
+use Rattle.ir_types.specs.Typed.{is_stored, IsAlign, IsAlignIfAny, IsElem}
 use Rattle.ir_lex.specs.Bytes.{is_word_byte, begins_name}
 use Rattle.ir_line.specs.Forms as forms
 use Rattle.ir_line.specs.Forms.{slots}
 use Rattle.ir_print.specs.declared.names.Local.{Local}
-use Rattle.ir_print.specs.Names.{Names, local_of, is_store, is_void}
-use Rattle.ir_print.specs.Literals.{ty_text}
-use Rattle.ir_print.specs.Operands.{opd_text}
-use Rattle.ir_print.specs.Instructions.{inst_text, act_text, align_text, result_text}
+use Rattle.ir_print.specs.Names.{Names, local_of, is_void}
+use Rattle.ir_print.specs.Instructions.{act_text, result_text}
 use Rattle.rf_text.specs.Shown.{Shown, Fits, shown_ty}
-use Rattle.rf_text.specs.Written.{forms_of, written, arg_of, result_of, shown_text}
-use Rattle.rf_text.specs.Printed.{Printed}
+use Rattle.rf_text.specs.Written.{written, result_of, shown_text}
 use Rattle.rf_text.proofs.Words.{Told}
 use Rattle.rf_text.proofs.WordsNames.{Named}
-use Rattle.rf_text.proofs.Parts.{Cut, told_part, told_last, told_space, led_cut, space_stops, comma_stops}
+use Rattle.rf_text.proofs.Parts.{told_part, told_last, told_space}
 use Rattle.rf_text.proofs.PartsTypes.{kind_cut}
-use Rattle.rf_text.proofs.PartsMemory.{stored_value, stored_test, byte_test, align_cut, align_stops, told_align, elem_cut}
-use Rattle.rf_text.proofs.PartsOperands.{Operand, shown_named, told_arg, told_pointer, told_also}
+use Rattle.rf_text.proofs.PartsMemory.{stored_value, stored_test, align_cut, align_stops, told_align, elem_cut}
+use Rattle.rf_text.proofs.PartsOperands.{Operand, shown_named, told_arg, told_pointer}
 use Rattle.rf_text.proofs.Insts.{value_line, act_line, told_result, told_code, told_act, operands, with_none, with_one, with_two, value_no_void, inst, Reads}
 
 module _ (ns : Names) (gs : List (List ℕ)) (shown : Shown ns gs) (ret : Ty) (id : Id) (name : Option (List ℕ)) (ty : Ty) where

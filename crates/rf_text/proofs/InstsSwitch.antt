@@ -1,5 +1,5 @@
 -- A switch as it is printed: its first line, a line a case, and its end.
-use Rattle.std.proofs.Common.{◌≡◌, ℕ, ◌^◌, ◌<◌, Bool, true, false, ◌&&◌, arith, List, [], ◌∷◌, ◌++◌, map, length, Option, Some, None, refl, sym, ◌∙◌, ap, subst, codes, append_assoc}
+use Rattle.std.proofs.Common.{◌≡◌, ℕ, ◌^◌, ◌<◌, true, arith, List, [], ◌∷◌, ◌++◌, map, length, Option, Some, None, refl, codes, append_assoc}
 use Rattle.std.proofs.lemmas.List.Elements.{All-head, All-tail, All-weaker}
 use Rattle.std.specs.List.{All, AllPairs}
 use Rattle.std.specs.Fmt.{decimal}
@@ -9,22 +9,20 @@ use Rattle.ir_types.specs.declared.ty.Ty.TheVariants.{Void, Int}
 use Rattle.ir_types.specs.declared.opd.Opd.{Opd}
 use Rattle.ir_types.specs.declared.op.Op.TheVariants as ops
 use Rattle.ir_types.specs.declared.inst.Inst.{Inst}
-use Rattle.ir_types.specs.Typed.{is_width, is_value, IsCase}
+use Rattle.ir_types.specs.Typed.{is_width, IsCase}
 use Rattle.ir_lex.specs.Bytes.{is_word_byte, begins_name, is_control}
 use Rattle.ir_lex.specs.Scan.{texts}
-use Rattle.ir_lex.proofs.Again.{stops}
-use Rattle.ir_line.specs.declared.line.Line.{Line}
 use Rattle.ir_line.specs.declared.line.Line.TheVariants.{Stmt as StmtLine, CasesEnd}
 use Rattle.ir_line.specs.Values.{bits_number}
 use Rattle.ir_line.specs.Pieces.{Says, Case}
 use Rattle.ir_line.specs.Forms as forms
 use Rattle.ir_line.specs.Forms.{Slot, slot, slots, word, arg}
-use Rattle.ir_print.specs.Literals.{number_text, lane_text}
+use Rattle.ir_print.specs.Literals.{number_text}
 use Rattle.ir_print.specs.Names.{Names}
 use Rattle.ir_print.specs.Operands.{opd_ty, typed_text, label_text}
 use Rattle.ir_print.specs.Instructions.{inst_text, case_text, cases_text, switch_width}
 use Rattle.rf_text.specs.Shown.{Shown, Fits, shown_ty}
-use Rattle.rf_text.specs.Written.{written, shown_block, stmt_of, forms_of, cases_of, first_ty}
+use Rattle.rf_text.specs.Written.{written, shown_block, stmt_of, forms_of, cases_of}
 use Rattle.rf_text.specs.Printed.{Printed}
 use Rattle.rf_text.proofs.Words.{Told, run_texts}
 use Rattle.rf_text.proofs.WordsNames.{run_is_plain}
@@ -78,9 +76,15 @@ module _ (ns : Names) where
 in_lines : (t l c : List ℕ) → codes "  " ++ ((codes "switch " ++ (t ++ (codes ", " ++ (l ++ (codes " [\n" ++ (c ++ codes "  ]")))))) ++ codes "\n")
     ≡ ((codes "  switch " ++ (t ++ (codes ", " ++ (l ++ codes " [")))) ++ codes "\n") ++ (c ++ codes "  ]\n")
 in_lines t l c =
-    rw (append_assoc t (codes ", " ++ (l ++ (codes " [\n" ++ (c ++ codes "  ]")))) (codes "\n"), append_assoc l (codes " [\n" ++ (c ++ codes "  ]")) (codes "\n"), append_assoc c (codes "  ]") (codes "\n"),
-    append_assoc t (codes ", " ++ (l ++ codes " [")) (codes "\n"), append_assoc l (codes " [") (codes "\n"), append_assoc t (codes ", " ++ (l ++ codes " [\n")) (c ++ codes "  ]\n"),
-    append_assoc l (codes " [\n") (c ++ codes "  ]\n")) refl
+    rw (
+      append_assoc t (codes ", " ++ (l ++ (codes " [\n" ++ (c ++ codes "  ]")))) (codes "\n"),
+      append_assoc l (codes " [\n" ++ (c ++ codes "  ]")) (codes "\n"),
+      append_assoc c (codes "  ]") (codes "\n"),
+      append_assoc t (codes ", " ++ (l ++ codes " [")) (codes "\n"),
+      append_assoc l (codes " [") (codes "\n"),
+      append_assoc t (codes ", " ++ (l ++ codes " [\n")) (c ++ codes "  ]\n"),
+      append_assoc l (codes " [\n") (c ++ codes "  ]\n"),
+    ) refl
 
 module _ (ns : Names) (gs : List (List ℕ)) (shown : Shown ns gs) (ret : Ty) (id : Id) (name : Option (List ℕ)) (ty : Ty) where
   switch_told : (w other : ℕ) (o : Opd) → is_width w ≡ true → Operand ns gs (Int w) o → Block ns other →

@@ -1,7 +1,6 @@
 -- Operations on two numbers, and comparisons, as they are printed.
-use Rattle.std.proofs.Common.{◌≡◌, ℕ, ◌*◌, ◌<◌, ◌⊎◌, inl, inr, Bool, true, false, cond, ◌&&◌, ◌||◌, arith, eq-eqb, List, [], ◌∷◌, ◌++◌, map, length, nat_eq, nat_lt, Option, Some, None, refl, sym, ◌∙◌, ap, subst, codes, append_assoc}
+use Rattle.std.proofs.Common.{◌≡◌, ℕ, ◌<◌, ◌⊎◌, inl, inr, Bool, true, false, ◌||◌, arith, eq-eqb, List, [], ◌∷◌, ◌++◌, map, nat_lt, Option, Some, refl, sym, ◌∙◌, codes, append_assoc}
 use Rattle.std.proofs.lemmas.Bool.Decides.{nat_tests}
-use Rattle.std.specs.Fmt.{decimal}
 use Rattle.vx_num.specs.declared.operations.BinOp.{BinOp}
 use Rattle.vx_num.specs.declared.operations.BinOp.TheVariants as bin
 use Rattle.vx_num.specs.declared.operations.CastOp.{CastOp}
@@ -13,32 +12,29 @@ use Rattle.ir_types.specs.declared.id.Id.{Id}
 use Rattle.ir_types.specs.declared.ty.Ty.{Ty}
 use Rattle.ir_types.specs.declared.ty.Ty.TheVariants.{Void, Int, Ptr, Row}
 use Rattle.ir_types.specs.declared.opd.Opd.{Opd}
-use Rattle.ir_types.specs.declared.op.Op.{Op}
 use Rattle.ir_types.specs.declared.op.Op.TheVariants as ops
-use Rattle.ir_types.specs.Typed.{is_value, is_number, is_scalar, is_vector, is_width, has_flags, with_width, lane_width, Converts}
+use Rattle.ir_types.specs.Typed.{is_value, is_number, has_flags, with_width, lane_width, Converts}
 use Rattle.ir_lex.specs.Bytes.{is_word_byte, begins_name}
 use Rattle.ir_lex.specs.Scan.{texts}
 use Rattle.ir_lex.proofs.Again.{stops}
 use Rattle.ir_lex.proofs.Classes.{clash}
 use Rattle.ir_line.specs.Kinds.{is_integer, is_vector as is_row_ty, is_cast, bits_of, fits}
-use Rattle.ir_line.specs.Words.{Words}
 use Rattle.ir_line.specs.Values.{bin_word as read_bin, cast_word as read_cast, pred_word as read_pred}
 use Rattle.ir_line.specs.Pieces.{Comparison}
 use Rattle.ir_line.specs.Forms as forms
 use Rattle.ir_line.specs.Forms.{slots, truth_of, cast_kind}
 use Rattle.ir_print.specs.declared.names.Local.{Local}
-use Rattle.ir_print.specs.Names.{Names, local_of, is_store, is_void}
+use Rattle.ir_print.specs.Names.{Names, local_of, is_void}
 use Rattle.ir_print.specs.Literals.{ty_text}
 use Rattle.ir_print.specs.Operands.{opd_text, typed_text}
-use Rattle.ir_print.specs.Instructions.{inst_text, act_text, bin_word, cast_word, pred_word, flags_text, flag_text}
+use Rattle.ir_print.specs.Instructions.{act_text, bin_word, cast_word, pred_word}
 use Rattle.rf_text.specs.Shown.{Shown, Fits, shown_ty}
-use Rattle.rf_text.specs.Written.{forms_of, written, arg_of}
-use Rattle.rf_text.specs.Printed.{Printed}
+use Rattle.rf_text.specs.Written.{written}
 use Rattle.rf_text.proofs.Words.{Told, is_run, run_texts}
 use Rattle.rf_text.proofs.WordsNames.{Named}
-use Rattle.rf_text.proofs.Parts.{Cut, told_part, told_last, told_space, told_word, word_cut, led_cut, space_stops, comma_stops}
+use Rattle.rf_text.proofs.Parts.{told_part, told_last, told_space, told_word, word_cut, space_stops}
 use Rattle.rf_text.proofs.PartsTypes.{kind_cut, ty_cut}
-use Rattle.rf_text.proofs.PartsFlags.{BeginsPlain, Begins, ty_begins, pred_no_flag, FlagsText, told_flags, no_flags, bin_words, bin_flags_text, flags_again, bin_refuses, cast_refuses, cast_flags_text, flag_word, flag_has}
+use Rattle.rf_text.proofs.PartsFlags.{BeginsPlain, Begins, ty_begins, pred_no_flag, told_flags, no_flags, bin_words, bin_flags_text, flags_again, bin_refuses, cast_refuses, cast_flags_text, flag_word, flag_has}
 use Rattle.rf_text.proofs.PartsOperands.{Operand, shown_named, told_typed, told_two}
 use Rattle.rf_text.proofs.Insts.{value_line, told_result, told_code, operands, with_one, with_two, value_no_void, inst, Reads}
 

@@ -1,27 +1,27 @@
 -- Operations that choose, and operations on lanes, as they are printed.
-use Rattle.std.proofs.Common.{◌≡◌, ℕ, ◌*◌, ◌<◌, ◌≤◌, ◌⊎◌, inl, inr, Bool, true, false, cond, ◌&&◌, ◌||◌, arith, eq-eqb, List, [], ◌∷◌, ◌++◌, map, length, nat_eq, nat_lt, nat_le, Option, Some, None, refl, sym, ◌∙◌, ap, subst, codes, append_assoc}
+use Rattle.std.proofs.Common.{◌≡◌, ℕ, ◌*◌, ◌⊎◌, inl, inr, true, false, eq-eqb, List, [], ◌∷◌, ◌++◌, map, length, nat_eq, Option, Some, refl, ◌∙◌, codes, append_assoc}
 use Rattle.std.specs.List.{All}
 use Rattle.ir_types.specs.declared.id.Id.{Id}
 use Rattle.ir_types.specs.declared.ty.Ty.{Ty}
 use Rattle.ir_types.specs.declared.ty.Ty.TheVariants.{Void, Int, Ptr, Row}
 use Rattle.ir_types.specs.declared.opd.Opd.{Opd}
 use Rattle.ir_types.specs.declared.op.Op.TheVariants as ops
-use Rattle.ir_types.specs.Typed.{is_value, is_vector, is_width, is_count, with_width, IsEntry}
+use Rattle.ir_types.specs.Typed.{is_value, is_vector, is_width, with_width, IsEntry}
 use Rattle.ir_lex.specs.Bytes.{is_word_byte, begins_name}
-use Rattle.ir_lex.proofs.Classes.{both, clash}
+use Rattle.ir_lex.proofs.Classes.{clash}
 use Rattle.ir_line.specs.Kinds.{is_same, is_chosen, bits_of}
 use Rattle.ir_line.specs.Forms as forms
 use Rattle.ir_line.specs.Forms.{slots}
 use Rattle.ir_print.specs.declared.names.Local.{Local}
 use Rattle.ir_print.specs.Names.{Names, local_of, is_void}
-use Rattle.ir_print.specs.Operands.{opd_text, typed_text}
-use Rattle.ir_print.specs.Instructions.{inst_text, act_text, mask_text}
+use Rattle.ir_print.specs.Operands.{typed_text}
+use Rattle.ir_print.specs.Instructions.{act_text, mask_text}
 use Rattle.rf_text.specs.Shown.{Shown, Fits, shown_ty}
-use Rattle.rf_text.specs.Written.{forms_of, written}
+use Rattle.rf_text.specs.Written.{written}
 use Rattle.rf_text.proofs.Words.{Told}
 use Rattle.rf_text.proofs.WordsNames.{Named}
 use Rattle.rf_text.proofs.Parts.{told_last, told_space}
-use Rattle.rf_text.proofs.PartsTypes.{IsRow, row_is, by_count, count_small}
+use Rattle.rf_text.proofs.PartsTypes.{row_is, by_count}
 use Rattle.rf_text.proofs.PartsBlocks.{mask_cut}
 use Rattle.rf_text.proofs.PartsOperands.{Operand, shown_named, told_typed, told_also, told_also_last}
 use Rattle.rf_text.proofs.Insts.{value_line, told_result, told_code, operands, with_two, with_three, value_no_void, inst, Reads}

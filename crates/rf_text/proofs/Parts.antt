@@ -1,12 +1,12 @@
 -- Parts of printed lines: how the words of a part, whatever stops it, follow from those of its pieces, and a line from its parts.
-use Rattle.std.proofs.Common.{◌≡◌, ℕ, Bool, true, false, ◌&&◌, List, [], ◌∷◌, ◌++◌, refl, sym, ◌∙◌, ap, subst, codes, append_assoc, append-nil}
+use Rattle.std.proofs.Common.{◌≡◌, ℕ, true, List, [], ◌∷◌, ◌++◌, refl, ◌∙◌, ap, subst, codes, append-nil}
 use Rattle.std.specs.List.{list_all}
-use Rattle.ir_lex.specs.Bytes.{begins_name, is_word_byte, is_digit, is_sigil, is_mark, is_blank, is_control}
-use Rattle.ir_lex.specs.Scan.{texts, more_len, name_len}
+use Rattle.ir_lex.specs.Bytes.{begins_name, is_word_byte, is_sigil, is_mark, is_blank, is_control}
+use Rattle.ir_lex.specs.Scan.{texts, more_len}
 use Rattle.ir_lex.proofs.Again.{stops, texts_space}
 use Rattle.ir_line.specs.Words.{Words}
 use Rattle.ir_line.specs.Pieces.{Piece, Value, Takes, Led}
-use Rattle.ir_line.specs.Forms.{Slot, slot, word, Spell}
+use Rattle.ir_line.specs.Forms.{Slot, slot, word}
 use Rattle.rf_text.proofs.Words.{is_plain, plain_append, Told, is_run, run_texts}
 use Rattle.rf_text.proofs.WordsNames.{run_is_plain}
 

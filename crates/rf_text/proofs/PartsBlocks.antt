@@ -1,5 +1,5 @@
 -- Blocks as they are printed are read again: as targets, and with the operands of a `phi`; and the mask of a shuffle.
-use Rattle.std.proofs.Common.{◌≡◌, ℕ, suc, zero, ◌+◌, ◌*◌, ◌^◌, ◌<◌, ◌≤◌, ◌==◌, Bool, true, false, cond, not, ◌&&◌, ◌||◌, List, [], ◌∷◌, ◌++◌, map, length, nat_eq, nat_lt, nat_le, Option, Some, None, refl, sym, ◌∙◌, ap, subst, codes, append_assoc, append-nil, arith}
+use Rattle.std.proofs.Common.{◌≡◌, ℕ, ◌+◌, ◌*◌, ◌<◌, ◌≤◌, true, List, [], ◌∷◌, ◌++◌, map, length, nat_le, Option, Some, None, refl, sym, ◌∙◌, ap, codes, append_assoc, arith}
 use Rattle.std.proofs.lemmas.Bool.Decides.{nat_tests}
 use Rattle.std.proofs.lemmas.List.Elements.{All-head, All-tail, All-weaker}
 use Rattle.std.specs.List.{list_all, All, slice_get}
@@ -8,15 +8,14 @@ use Rattle.vx_num.specs.Width.{IsLane}
 use Rattle.ir_types.specs.declared.ty.Ty.{Ty}
 use Rattle.ir_types.specs.declared.ty.Ty.TheVariants.{Row}
 use Rattle.ir_types.specs.declared.opd.Opd.{Opd}
-use Rattle.ir_types.specs.Typed.{is_width, is_count, IsEntry}
+use Rattle.ir_types.specs.Typed.{IsEntry}
 use Rattle.ir_lex.specs.Bytes.{is_control, is_word_byte, begins_name}
 use Rattle.ir_lex.specs.Scan.{texts}
-use Rattle.ir_lex.proofs.Again.{stops, texts_space}
-use Rattle.ir_line.specs.Kinds.{bits_of, lanes_of}
+use Rattle.ir_lex.proofs.Again.{texts_space}
 use Rattle.ir_line.specs.Words.{Words}
 use Rattle.ir_line.specs.Values.{local_of}
-use Rattle.ir_line.specs.Reading.{is_row, is_entry, are_entries}
-use Rattle.ir_line.specs.Pieces.{Value, Takes, Pairs, Mask, Says, Led, SpellsOperand, SpellsPair, Pair, SpellsPairs, LastPair, MorePairs, SpellsMask, Entries, SpellsTy, SpellsLanes}
+use Rattle.ir_line.specs.Reading.{is_entry, are_entries}
+use Rattle.ir_line.specs.Pieces.{Value, Takes, Pairs, Mask, Says, Led, SpellsOperand, SpellsPair, Pair, SpellsPairs, LastPair, MorePairs, Entries, SpellsTy, SpellsLanes}
 use Rattle.ir_line.specs.Forms.{arg, slot}
 use Rattle.ir_print.specs.Literals.{vector_text}
 use Rattle.ir_print.specs.Names.{Names}
@@ -24,10 +23,10 @@ use Rattle.ir_print.specs.Operands.{opd_text, block_text, label_text}
 use Rattle.ir_print.specs.Instructions.{pair_text, more_pairs, pairs_text, mask_text}
 use Rattle.rf_text.specs.Shown.{Shown, IsLocalName}
 use Rattle.rf_text.specs.Written.{written, shown_block, places_from}
-use Rattle.rf_text.proofs.Words.{is_plain, plain_append, Told, is_run, run_texts}
+use Rattle.rf_text.proofs.Words.{is_plain, plain_append, Told, run_texts}
 use Rattle.rf_text.proofs.WordsNames.{Named, local_named, local_texts, run_is_plain}
-use Rattle.rf_text.proofs.Parts.{Cut, led_cut, comma_texts, open_texts, close_texts}
-use Rattle.rf_text.proofs.PartsTypes.{IsRow, ty_cut, row_cut, row_text, row_read, by_count, count_small}
+use Rattle.rf_text.proofs.Parts.{Cut, comma_texts, open_texts, close_texts}
+use Rattle.rf_text.proofs.PartsTypes.{IsRow, row_cut, row_text, row_read, by_count, count_small}
 use Rattle.rf_text.proofs.PartsLiterals.{row_lanes_cut}
 use Rattle.rf_text.proofs.PartsOperands.{Operand, at_all}
 

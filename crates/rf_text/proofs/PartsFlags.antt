@@ -1,5 +1,5 @@
 -- Flags as they are printed are read again, and no type or comparison behind them is read as one more.
-use Rattle.std.proofs.Common.{◌≡◌, ℕ, ◌⊎◌, inl, inr, Bool, true, false, cond, not, ◌&&◌, ◌||◌, List, [], ◌∷◌, ◌++◌, Option, Some, None, refl, sym, ◌∙◌, ap, subst, codes, bytes_eq}
+use Rattle.std.proofs.Common.{◌≡◌, ℕ, ◌⊎◌, inl, inr, Bool, true, false, not, ◌&&◌, List, [], ◌∷◌, ◌++◌, Some, None, refl, ◌∙◌, ap, subst, codes, bytes_eq}
 use Rattle.std.specs.List.{list_all}
 use Rattle.vx_num.specs.declared.operations.BinOp.{BinOp}
 use Rattle.vx_num.specs.declared.operations.BinOp.TheVariants as bin
@@ -19,9 +19,9 @@ use Rattle.ir_line.specs.Values.{width_of, pred_word}
 use Rattle.ir_line.specs.Reading.{allows, has, is_distinct}
 use Rattle.ir_line.specs.Pieces.{Takes, Flags, SpellsFlags, SpellsTy}
 use Rattle.ir_line.specs.Pieces as pieces
-use Rattle.ir_line.specs.Forms.{Slot, slot, Spell, flags_of, bin_flags, cast_flags}
+use Rattle.ir_line.specs.Forms.{Slot, slot, flags_of, bin_flags, cast_flags}
 use Rattle.ir_line.proofs.Steps.{apart}
-use Rattle.ir_print.specs.Instructions.{flag_text, wrap_flags, flags_text}
+use Rattle.ir_print.specs.Instructions.{flag_text, flags_text}
 use Rattle.rf_text.proofs.Parts.{space_stops}
 use Rattle.rf_text.proofs.Words.{Taken, is_plain, plain_append, Told, is_run, run_texts}
 
@@ -84,9 +84,6 @@ int_no_flag word w h = record {
   nusw = apart width_of (codes "nusw") word w no_nusw h;
   samesign = apart width_of (codes "samesign") word w no_samesign h;
 }
-
-pub sign_no_flag : (b : ℕ) → (b ≡ 60) → NoFlag (b ∷ [])
-sign_no_flag b e = rw e (record { nuw = refl; nsw = refl; exact = refl; disjoint = refl; nneg = refl; inbounds = refl; nusw = refl; samesign = refl })
 
 pub open_no_flag : NoFlag (codes "[")
 open_no_flag = record { nuw = refl; nsw = refl; exact = refl; disjoint = refl; nneg = refl; inbounds = refl; nusw = refl; samesign = refl }

@@ -1,9 +1,9 @@
 -- Literals as they are printed are read again: lanes by their width, vectors as poison, zero or a list.
-use Rattle.std.proofs.Common.{◌≡◌, ℕ, suc, zero, ◌+◌, ◌-◌, ◌*◌, ◌^◌, ◌<◌, ◌≤◌, ◌==◌, Bool, true, false, cond, not, ◌&&◌, ◌||◌, List, [], ◌∷◌, ◌++◌, length, replicate, nat_eq, nat_lt, nat_le, Option, Some, None, refl, sym, ◌∙◌, ap, subst, codes, append_assoc, arith, bytes_eq, eqb-true}
+use Rattle.std.proofs.Common.{◌≡◌, ℕ, suc, zero, ◌-◌, ◌*◌, ◌^◌, ◌<◌, ◌≤◌, Bool, true, false, cond, ◌||◌, List, [], ◌∷◌, ◌++◌, length, replicate, nat_eq, nat_lt, nat_le, Option, Some, None, refl, sym, ◌∙◌, ap, subst, codes, append_assoc, arith, bytes_eq, eqb-true}
 use Rattle.std.proofs.lemmas.Bool.Decides.{nat_tests}
 use Rattle.std.proofs.lemmas.List.Elements.{All-head, All-tail}
 use Rattle.std.specs.List.{list_all, All}
-use Rattle.std.specs.Fmt.{decimal, digits}
+use Rattle.std.specs.Fmt.{decimal}
 use Rattle.vx_num.specs.Width.{IsLane}
 use Rattle.ir_types.specs.declared.ty.Ty.{Ty}
 use Rattle.ir_types.specs.declared.ty.Ty.TheVariants.{Void, Int, Ptr, Row}
@@ -12,16 +12,16 @@ use Rattle.ir_lex.specs.Bytes.{begins_name, is_word_byte, is_control}
 use Rattle.ir_lex.specs.Scan.{texts}
 use Rattle.ir_lex.proofs.Again.{stops, texts_space}
 use Rattle.ir_lex.proofs.Classes.{both, clash}
-use Rattle.ir_line.specs.Words.{Words, ◌>>=◌, when}
+use Rattle.ir_line.specs.Words.{Words, when}
 use Rattle.ir_line.specs.Values.{number_of, one_more, fitting, negative, decimal_of, bits_number, lane_of}
-use Rattle.ir_line.specs.Pieces.{SpellsLane, Lane, SpellsList, LastLane, MoreLanes, SpellsRow, Poison, Zero, Listed, SpellsLanes, Scalar, NoPointer, Lanes}
+use Rattle.ir_line.specs.Pieces.{Lane, SpellsList, LastLane, MoreLanes, SpellsRow, Poison, Zero, Listed, SpellsLanes, Scalar, NoPointer, Lanes}
 use Rattle.ir_line.proofs.Steps.{nothing, apart}
-use Rattle.ir_print.specs.Literals.{number_text, lane_text, more_lanes_text, lanes_text, vector_text, scalar_text, lits_text, is_poison, is_zero}
+use Rattle.ir_print.specs.Literals.{number_text, lane_text, more_lanes_text, lanes_text, vector_text, lits_text, is_poison, is_zero}
 use Rattle.rf_text.proofs.Words.{is_plain, plain_append, run_plain, is_run, run_texts}
 use Rattle.rf_text.proofs.WordsNames.{run_is_plain}
-use Rattle.rf_text.proofs.WordsNumbers.{IsDecimal, decimal_is, decimal_read, decimal_run, decimal_word}
-use Rattle.rf_text.proofs.Parts.{Cut, word_cut, comma_texts, less_texts, greater_texts}
-use Rattle.rf_text.proofs.PartsTypes.{IsRow, row_is, by_width, width_small, int_text, int_run, int_read}
+use Rattle.rf_text.proofs.WordsNumbers.{decimal_is, decimal_read, decimal_run, decimal_word}
+use Rattle.rf_text.proofs.Parts.{Cut, comma_texts, less_texts, greater_texts}
+use Rattle.rf_text.proofs.PartsTypes.{row_is, by_width, width_small, int_text, int_run, int_read}
 
 -- numbers
 

@@ -1,7 +1,6 @@
 -- Aligns, and what is stepped over or made, as they are printed are read again.
-use Rattle.std.proofs.Common.{◌≡◌, ℕ, suc, zero, ◌+◌, ◌*◌, ◌^◌, ◌<◌, ◌≤◌, ◌==◌, Bool, true, false, cond, not, ◌&&◌, ◌||◌, List, [], ◌∷◌, ◌++◌, nat_eq, nat_lt, nat_le, Option, Some, None, refl, sym, ◌∙◌, ap, subst, codes, append_assoc, arith, eqb-true}
+use Rattle.std.proofs.Common.{◌≡◌, ℕ, suc, zero, ◌+◌, ◌*◌, ◌^◌, ◌<◌, ◌≤◌, Bool, true, false, not, ◌&&◌, ◌||◌, List, [], ◌∷◌, ◌++◌, nat_eq, nat_le, Option, Some, None, refl, sym, ◌∙◌, ap, codes, append_assoc, arith, eqb-true}
 use Rattle.std.proofs.lemmas.Bool.Decides.{nat_tests}
-use Rattle.std.specs.List.{list_all}
 use Rattle.std.specs.Fmt.{decimal}
 use Rattle.std.specs.Int.{is_power_of_two}
 use Rattle.std.specs.Int.RustNames.{count_ones}
@@ -11,24 +10,23 @@ use Rattle.ir_types.specs.declared.ty.Ty.{Ty}
 use Rattle.ir_types.specs.declared.ty.Ty.TheVariants.{Void, Int, Ptr, Row}
 use Rattle.ir_types.specs.declared.ty.Elem.{Elem}
 use Rattle.ir_types.specs.declared.ty.Elem.TheVariants.{One, Array}
-use Rattle.ir_types.specs.Typed.{is_width, is_scalar, is_number, is_value, is_stored, lane_width, IsAlign, IsAlignIfAny, IsElem, IsStep}
+use Rattle.ir_types.specs.Typed.{is_width, is_scalar, is_number, is_value, is_stored, IsAlign, IsAlignIfAny, IsElem}
 use Rattle.ir_lex.specs.Bytes.{is_control, is_word_byte, begins_name}
 use Rattle.ir_lex.specs.Scan.{texts}
 use Rattle.ir_lex.proofs.Again.{stops, texts_space}
 use Rattle.ir_lex.proofs.Classes.{both, clash}
 use Rattle.ir_line.specs.Kinds.{fits, is_integer, is_vector, bits_of}
-use Rattle.ir_line.specs.Words.{Words, ◌>>=◌, when}
-use Rattle.ir_line.specs.Values.{align_of, is_align, number_of, width_of}
+use Rattle.ir_line.specs.Words.{Words}
+use Rattle.ir_line.specs.Values.{align_of, is_align}
 use Rattle.ir_line.specs.Reading.{length_of, item_of}
-use Rattle.ir_line.specs.Pieces.{Takes, Aligned, Element, SpellsAligned, Absent, Given, SpellsElem, Single, Items}
-use Rattle.ir_line.specs.Forms.{Slot, slot}
+use Rattle.ir_line.specs.Pieces.{Aligned, SpellsAligned, Absent, Given, SpellsElem, Single, Items}
+use Rattle.ir_line.specs.Forms.{slot}
 use Rattle.ir_print.specs.Literals.{ty_text, elem_text}
 use Rattle.ir_print.specs.Instructions.{align_text, given_align}
-use Rattle.rf_text.proofs.Words.{Taken, is_plain, plain_append, run_plain, Told, is_run, run_texts}
-use Rattle.rf_text.proofs.WordsNames.{run_is_plain}
+use Rattle.rf_text.proofs.Words.{Taken, plain_append, run_plain, Told, is_run, run_texts}
 use Rattle.rf_text.proofs.WordsNumbers.{decimal_is, decimal_read, decimal_run, decimal_word}
-use Rattle.rf_text.proofs.Parts.{Cut, comma_texts, open_texts, close_texts, told_part, told_last, told_end}
-use Rattle.rf_text.proofs.PartsTypes.{kind_cut, ty_cut, width_small, int_text, int_run, int_read, x_texts}
+use Rattle.rf_text.proofs.Parts.{Cut, comma_texts, open_texts, close_texts, told_last}
+use Rattle.rf_text.proofs.PartsTypes.{kind_cut, width_small, int_text, int_run, int_read, x_texts}
 
 -- a test that holds below a bound
 
@@ -140,11 +138,15 @@ unfolding is_control is_word_byte begins_name length_of
 array_cut k n w h short = record {
   plain = plain_append (decimal n) (codes " x i" ++ (decimal w ++ codes "]")) (run_plain (decimal n) (decimal_run n less)) (plain_append (decimal w) (codes "]") (run_plain (decimal w) (decimal_run w narrow)) refl);
   takes = λ rest stop.
-      rw (append_assoc (decimal n) (codes " x i" ++ (decimal w ++ codes "]")) rest, append_assoc (decimal w) (codes "]") rest, open_texts (decimal n ++ (codes " x i" ++ (decimal w ++ (93 ∷ rest)))),
-      run_texts (decimal n) (codes " x i" ++ (decimal w ++ (93 ∷ rest))) (decimal_word n (decimal n) (decimal_is n less)) refl,
-      x_texts (int_text w ++ (93 ∷ rest)),
-      run_texts (int_text w) (93 ∷ rest) (int_run w (width_small w width)) refl,
-      close_texts rest)
+      rw (
+        append_assoc (decimal n) (codes " x i" ++ (decimal w ++ codes "]")) rest,
+        append_assoc (decimal w) (codes "]") rest,
+        open_texts (decimal n ++ (codes " x i" ++ (decimal w ++ (93 ∷ rest)))),
+        run_texts (decimal n) (codes " x i" ++ (decimal w ++ (93 ∷ rest))) (decimal_word n (decimal n) (decimal_is n less)) refl,
+        x_texts (int_text w ++ (93 ∷ rest)),
+        run_texts (int_text w) (93 ∷ rest) (int_run w (width_small w width)) refl,
+        close_texts rest,
+      )
       (Items n w (decimal n) (int_text w) (texts rest) length_read (item_read w h width));
 } where
   width : is_width w ≡ true

@@ -1,13 +1,12 @@
 -- Operands as they are printed are read again as what is written: a local by its name, a global by its name, a literal by its lanes.
-use Rattle.std.proofs.Common.{◌≡◌, ℕ, suc, zero, ◌<◌, Bool, true, false, cond, ◌&&◌, List, [], ◌∷◌, ◌++◌, length, nat_eq, nat_lt, Option, Some, None, refl, sym, ◌∙◌, ap, subst, codes, append_assoc, arith}
+use Rattle.std.proofs.Common.{◌≡◌, ℕ, suc, zero, ◌<◌, Bool, true, false, cond, List, [], ◌∷◌, ◌++◌, length, nat_lt, Option, Some, None, refl, subst, codes, append_assoc, arith}
 use Rattle.std.proofs.lemmas.Bool.Decides.{nat_tests}
 use Rattle.std.proofs.lemmas.List.Elements.{All-head, All-tail}
-use Rattle.std.specs.List.{list_all, All, slice_get}
+use Rattle.std.specs.List.{All, slice_get}
 use Rattle.std.specs.Option.{option_map}
-use Rattle.vx_num.specs.Width.{IsLane}
 use Rattle.ir_types.specs.declared.id.Id.{Id}
 use Rattle.ir_types.specs.declared.ty.Ty.{Ty}
-use Rattle.ir_types.specs.declared.ty.Ty.TheVariants.{Void, Int, Ptr, Row}
+use Rattle.ir_types.specs.declared.ty.Ty.TheVariants.{Ptr}
 use Rattle.ir_types.specs.declared.literal.Literal.{Literal}
 use Rattle.ir_types.specs.declared.opd.Opd.{Opd}
 use Rattle.ir_types.specs.declared.opd.Opd.TheVariants.{Val, Lit, Sym}
@@ -17,10 +16,8 @@ use Rattle.ir_lex.specs.Bytes.{is_control, is_word_byte, begins_name}
 use Rattle.ir_lex.specs.Tokens.{is_name}
 use Rattle.ir_lex.specs.Scan.{texts}
 use Rattle.ir_lex.proofs.Again.{stops, texts_space}
-use Rattle.ir_line.specs.declared.written.Written.{Written}
 use Rattle.ir_line.specs.declared.written.Written.TheVariants as opds
-use Rattle.ir_line.specs.Kinds.{fits, is_pointer}
-use Rattle.ir_line.specs.Words.{Words}
+use Rattle.ir_line.specs.Kinds.{fits}
 use Rattle.ir_line.specs.Pieces.{SpellsOperand, Named as NamedOpd, Global, Literal as LiteralOpd, SpellsTyped, Bare, Other, Typed, Also}
 use Rattle.ir_line.specs.Forms.{Slot, slot, arg}
 use Rattle.ir_line.proofs.Steps.{nothing, some_is}
@@ -30,10 +27,10 @@ use Rattle.ir_print.specs.Names.{Names, local_of, last_of, same_id}
 use Rattle.ir_print.specs.Operands.{opd_text, opd_ty, local_text, local_ty, global_text, typed_text}
 use Rattle.rf_text.specs.Shown.{Shown, IsLocalName, shown_ty, IsPoisonIfPointer}
 use Rattle.rf_text.specs.Written.{written, shown_text, shown_global}
-use Rattle.rf_text.proofs.Words.{Taken, is_plain, plain_append, Told}
+use Rattle.rf_text.proofs.Words.{Taken, plain_append, Told}
 use Rattle.rf_text.proofs.WordsNames.{Named, local_named, local_texts, run_is_plain, symbol_texts, symbol_read, symbol_plain}
 use Rattle.rf_text.proofs.Parts.{Cut, told_part, told_last, led_cut, comma_stops}
-use Rattle.rf_text.proofs.PartsTypes.{ty_cut, kind_cut}
+use Rattle.rf_text.proofs.PartsTypes.{kind_cut}
 use Rattle.rf_text.proofs.PartsLiterals.{lits_cut}
 
 -- what holds of all that is shown holds of what is shown of an id

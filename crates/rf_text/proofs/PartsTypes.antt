@@ -1,13 +1,13 @@
 -- Types as they are printed are read again.
-use Rattle.std.proofs.Common.{◌≡◌, ℕ, ◌*◌, ◌^◌, ◌<◌, ◌≤◌, ◌==◌, ◌⊎◌, inl, inr, Bool, true, false, cond, not, ◌&&◌, ◌||◌, List, [], ◌∷◌, ◌++◌, nat_eq, nat_lt, nat_le, Option, Some, None, refl, sym, ◌∙◌, ap, subst, codes, append_assoc, arith, eqb-true}
+use Rattle.std.proofs.Common.{◌≡◌, ℕ, ◌*◌, ◌^◌, ◌<◌, ◌≤◌, ◌==◌, inl, inr, Bool, true, false, ◌&&◌, ◌||◌, List, ◌∷◌, ◌++◌, nat_eq, nat_le, Some, refl, sym, ◌∙◌, ap, subst, codes, append_assoc, arith, eqb-true}
 use Rattle.std.specs.List.{list_all}
 use Rattle.std.specs.Fmt.{decimal, digits}
 use Rattle.ir_types.specs.declared.ty.Ty.{Ty}
 use Rattle.ir_types.specs.declared.ty.Ty.TheVariants.{Void, Int, Ptr, Row}
-use Rattle.ir_types.specs.Typed.{is_width, is_count, is_vector, is_scalar, is_number, is_value}
+use Rattle.ir_types.specs.Typed.{is_width, is_count, is_vector, is_value}
 use Rattle.ir_lex.specs.Bytes.{begins_name, is_word_byte, is_control}
 use Rattle.ir_lex.specs.Scan.{texts}
-use Rattle.ir_lex.proofs.Again.{stops, texts_space}
+use Rattle.ir_lex.proofs.Again.{texts_space}
 use Rattle.ir_lex.proofs.Classes.{both, either, clash}
 use Rattle.ir_line.specs.Kinds.{fits}
 use Rattle.ir_line.specs.Words.{Words}
@@ -104,11 +104,15 @@ x_texts rest = texts_space (codes "x " ++ rest) ∙ run_texts (codes "x") (32 �
 row_words : (n w : ℕ) → IsRow n w → (rest : List ℕ) → texts (row_text n w ++ rest) ≡ codes "<" ∷ decimal n ∷ codes "x" ∷ int_text w ∷ codes ">" ∷ texts rest
 unfolding is_word_byte begins_name
 row_words n w r rest =
-    rw (append_assoc (decimal n) (codes " x i" ++ (decimal w ++ codes ">")) rest, append_assoc (decimal w) (codes ">") rest, less_texts (decimal n ++ (codes " x i" ++ (decimal w ++ (62 ∷ rest)))),
-    run_texts (decimal n) (codes " x i" ++ (decimal w ++ (62 ∷ rest))) (count_run n r.count) refl,
-    x_texts (int_text w ++ (62 ∷ rest)),
-    run_texts (int_text w) (62 ∷ rest) (int_run w (width_small w r.width)) refl,
-    greater_texts rest) refl
+    rw (
+      append_assoc (decimal n) (codes " x i" ++ (decimal w ++ codes ">")) rest,
+      append_assoc (decimal w) (codes ">") rest,
+      less_texts (decimal n ++ (codes " x i" ++ (decimal w ++ (62 ∷ rest)))),
+      run_texts (decimal n) (codes " x i" ++ (decimal w ++ (62 ∷ rest))) (count_run n r.count) refl,
+      x_texts (int_text w ++ (62 ∷ rest)),
+      run_texts (int_text w) (62 ∷ rest) (int_run w (width_small w r.width)) refl,
+      greater_texts rest,
+    ) refl
 
 row_plain : (n w : ℕ) → IsRow n w → list_all is_plain (row_text n w) ≡ true
 unfolding is_control is_word_byte begins_name

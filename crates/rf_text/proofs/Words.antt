@@ -1,17 +1,15 @@
 -- Bytes of printed lines: they are cut into words that do not depend on what stands behind them, have no fault, and bear no attachment.
-use Rattle.std.proofs.Common.{◌≡◌, ℕ, suc, zero, ◌+◌, ◌<◌, ◌==◌, ◌⊎◌, inl, inr, Bool, true, false, cond, not, ◌&&◌, ◌||◌, List, [], ◌∷◌, ◌++◌, length, take, drop, map, nat_lt, Option, Some, None, refl, sym, ◌∙◌, ap, subst, arith, codes, bytes_eq, eqb-true}
+use Rattle.std.proofs.Common.{◌≡◌, ℕ, suc, zero, ◌+◌, ◌<◌, ◌==◌, Bool, true, false, cond, not, ◌&&◌, List, [], ◌∷◌, ◌++◌, length, take, nat_lt, Some, None, refl, ◌∙◌, ap, arith, codes, bytes_eq}
 use Rattle.std.proofs.Math.Seq.{take-length}
 use Rattle.std.proofs.lemmas.List.{length-map}
 use Rattle.std.proofs.lemmas.Bool.Decides.{nat_tests}
 use Rattle.std.specs.List.{list_all}
-use Rattle.std.specs.Char.{is_ascii_digit, is_ascii_alphabetic}
-use Rattle.ir_lex.specs.declared.list.Token.{Token}
-use Rattle.ir_lex.specs.Bytes.{quote, semicolon, begins_name, is_word_byte, is_digit, is_sigil, is_mark as is_mark_byte, is_blank, is_control}
+use Rattle.ir_lex.specs.Bytes.{quote, semicolon, begins_name, is_word_byte, is_blank, is_control}
 use Rattle.ir_lex.specs.Faults.{enter, behind, begins_fault}
 use Rattle.ir_lex.specs.Scan.{texts, texts_from, more_len, cut, fault_of, fault_from}
-use Rattle.ir_lex.specs.Tokens.{IsToken, Name, Unnamed, Run, is_name, is_number}
+use Rattle.ir_lex.specs.Tokens.{IsToken, Run}
 use Rattle.ir_lex.specs.Words.{words}
-use Rattle.ir_lex.proofs.Again.{stops, texts_append, token_alone, texts_space}
+use Rattle.ir_lex.proofs.Again.{stops, texts_append, token_alone}
 use Rattle.ir_lex.proofs.Classes.{both, clash}
 use Rattle.ir_lex.proofs.Laws.{words_of_line}
 use Rattle.ir_line.specs.Words.{Words, is_ascii}

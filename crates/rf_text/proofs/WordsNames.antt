@@ -1,17 +1,16 @@
 -- Names as they are printed: of locals, of globals and of labels.
-use Rattle.std.proofs.Common.{◌≡◌, ℕ, ◌^◌, ◌<◌, ◌⊎◌, inl, inr, Bool, true, false, cond, ◌&&◌, List, [], ◌∷◌, ◌++◌, nat_eq, Option, Some, None, refl, sym, ◌∙◌, ap, subst, codes}
+use Rattle.std.proofs.Common.{◌≡◌, ℕ, inl, inr, Bool, true, false, List, [], ◌∷◌, ◌++◌, nat_eq, Some, refl}
 use Rattle.std.specs.Fmt.{decimal}
 use Rattle.std.specs.List.{list_all}
 use Rattle.std.specs.Char.{is_ascii_digit}
 use Rattle.ir_lex.specs.Bytes.{quote, begins_name, is_word_byte, is_digit, is_sigil, is_blank, is_control}
-use Rattle.ir_lex.specs.Tokens.{IsToken, Name, Unnamed, is_name, is_number}
+use Rattle.ir_lex.specs.Tokens.{IsToken, Name, Unnamed, is_name}
 use Rattle.ir_lex.specs.Scan.{texts}
 use Rattle.ir_lex.proofs.Again.{stops}
 use Rattle.ir_lex.proofs.Classes.{both, clash, digit_no_name, name_word, digit_word}
-use Rattle.ir_line.specs.Words.{when}
-use Rattle.ir_line.specs.Values.{local_of, named, symbol_of, label_of, plain_number}
+use Rattle.ir_line.specs.Values.{local_of, named, symbol_of, label_of}
 use Rattle.rf_text.specs.Shown.{IsLocalName}
-use Rattle.rf_text.proofs.Words.{is_plain, NoSign, plain_is, word_plain, is_run, run_plain, one_word}
+use Rattle.rf_text.proofs.Words.{is_plain, plain_is, word_plain, is_run, run_plain, one_word}
 use Rattle.rf_text.proofs.WordsNumbers.{IsDecimal, decimal_is, number_run}
 
 -- a local's name, as words are made of it

@@ -1,14 +1,14 @@
 -- Numbers as they are printed: their digits are read again as the number, and none is a zero that is dropped.
-use Rattle.std.proofs.Common.{◌≡◌, ℕ, suc, zero, ◌+◌, ◌-◌, ◌*◌, ◌/◌, ◌%◌, ◌^◌, ◌<◌, ◌≤◌, ◌==◌, Bool, true, false, cond, not, ◌&&◌, List, [], ◌∷◌, ◌++◌, length, nat_eq, nat_lt, nat_le, Option, Some, None, refl, sym, ◌∙◌, ap, subst, arith, codes, bytes_eq}
+use Rattle.std.proofs.Common.{◌≡◌, ℕ, ◌+◌, ◌-◌, ◌*◌, ◌/◌, ◌%◌, ◌^◌, ◌<◌, ◌≤◌, Bool, true, false, cond, not, List, [], ◌∷◌, ◌++◌, nat_eq, nat_lt, Option, Some, None, refl, sym, arith}
 use Rattle.std.proofs.lemmas.Bool.Decides.{nat_tests}
 use Rattle.std.proofs.lemmas.Fmt.{decimal_by_steps}
-use Rattle.std.specs.Fmt.{decimal, digits}
+use Rattle.std.specs.Fmt.{decimal}
 use Rattle.std.specs.List.{list_all}
 use Rattle.std.specs.Char.{is_ascii_digit}
 use Rattle.ir_lex.specs.Bytes.{is_digit, is_word_byte}
 use Rattle.ir_lex.specs.Tokens.{is_number}
 use Rattle.ir_lex.proofs.Classes.{both, clash, digit_word}
-use Rattle.ir_line.specs.Words.{◌>>=◌, when}
+use Rattle.ir_line.specs.Words.{◌>>=◌}
 use Rattle.ir_line.specs.Values.{number_of, number_from, one_more, plain_number}
 use Rattle.rf_text.proofs.Words.{is_run}
 

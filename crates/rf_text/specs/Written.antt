@@ -1,5 +1,6 @@
 -- An instruction with names in the place of ids, as the lines of its text have it.
-use Rattle.std.specs.Prelude.{◌≡◌, refl, ℕ, ◌+◌, Bool, true, false, List, [], ◌∷◌, ◌++◌, map, codes, slice_get, unwrap_or}
+use Rattle.std.specs.Prelude.{◌≡◌, refl, ℕ, ◌+◌, Bool, false, List, [], ◌∷◌, ◌++◌, map, codes, slice_get, unwrap_or}
+use Rattle.std.specs.Fmt.{digits}
 use Rattle.std.specs.declared.option.Option.{Option}
 use Rattle.std.specs.declared.option.Option.TheVariants.{None, Some}
 use Rattle.ir_types.specs.declared.id.Id.{Id}
@@ -19,6 +20,7 @@ use Rattle.ir_line.specs.declared.line.Line.TheVariants.{Stmt as StmtLine, Case,
 use Rattle.ir_print.specs.declared.names.Local.{Local as ShownLocal}
 use Rattle.ir_print.specs.Names.{Names, local_of, is_store, is_void}
 use Rattle.ir_print.specs.Operands.{opd_ty}
+use Rattle.ir_print.specs.Instructions.{inst_text}
 use Rattle.rf_text.specs.Shown.{op_blocks}
 
 -- what is shown of a value, of a block and of a global
@@ -92,3 +94,36 @@ more_forms ns os op = []
 -- the forms of the lines of an instruction
 abbrev pub forms_of : Names → List (List ℕ) → Inst → List Line
 forms_of ns gs i = StmtLine (stmt_of ns gs i) ∷ more_forms ns i.opds i.op
+
+-- examples: in a function with the pointer `%p`, the number `%0` and the blocks `a` and `1`, the value `%x` is loaded and switched on
+ids : ℕ → Id
+ids k = record { region = 0; k = k }
+
+seen : Names
+seen = record {
+  locals = record { id = ids 0; ty = Ptr; text = codes "p" } ∷ record { id = ids 1; ty = Int 32; text = codes "0" } ∷ record { id = ids 2; ty = Int 32; text = codes "x" } ∷ [];
+  labels = codes "a" ∷ codes "1" ∷ [];
+}
+
+loads : Inst
+loads = record { id = ids 2; name = Some (codes "x"); ty = Int 32; op = Load 4; opds = Val (ids 0) ∷ [] }
+
+load_text : inst_text seen [] loads ≡ codes "  %x = load i32, ptr %p, align 4\n"
+unfolding ids seen loads digits
+load_text = refl
+
+load_form : forms_of seen [] loads ≡ StmtLine (record { result = Some (codes "x"); ty = Int 32; op = Load 4; args = record { ty = Ptr; opd = Local (codes "p") } ∷ []; labels = [] }) ∷ []
+unfolding ids seen loads
+load_form = refl
+
+switches : Inst
+switches = record { id = ids 3; name = None; ty = Void; op = Switch 0 (Some 255 ∷ []) (1 ∷ []); opds = Val (ids 1) ∷ [] }
+
+switch_text : inst_text seen [] switches ≡ codes "  switch i32 %0, label %a [\n    i32 255, label %1\n  ]\n"
+unfolding ids seen switches digits
+switch_text = refl
+
+switch_forms : forms_of seen [] switches ≡ StmtLine (record { result = None; ty = Void; op = Switch 0 [] []; args = record { ty = Int 32; opd = Local (codes "0") } ∷ []; labels = codes "a" ∷ [] })
+    ∷ Case (record { ty = Int 32; lanes = Some 255 ∷ [] }) (codes "1") ∷ CasesEnd ∷ []
+unfolding ids seen switches
+switch_forms = refl
