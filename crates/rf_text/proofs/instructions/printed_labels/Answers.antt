@@ -1,0 +1,6 @@
+-- Labels are read again.
+use Rattle.rf_text.proofs.InstsLabels.{label_printed}
+use Rattle.rf_text.proofs.instructions.printed_labels.Goals as goal
+
+pub returns : goal.returns
+returns c = label_printed

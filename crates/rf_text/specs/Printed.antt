@@ -1,0 +1,42 @@
+-- Text that is whole lines of a function's body, with the forms that these lines are read as; and what is so.
+use Rattle.std.specs.Prelude.{◌≡◌, refl, ℕ, true, List, [], ◌∷◌, ◌++◌, map, codes}
+use Rattle.std.specs.declared.option.Option.TheVariants.{Some}
+use Rattle.ir_types.specs.declared.ty.Ty.{Ty}
+use Rattle.ir_types.specs.declared.inst.Inst.{Inst}
+use Rattle.ir_line.specs.declared.line.Line.{Line}
+use Rattle.ir_line.specs.declared.line.Line.TheVariants.{Empty, Close, Label}
+use Rattle.ir_print.specs.Names.{Names}
+use Rattle.ir_print.specs.Instructions.{inst_text}
+use Rattle.ir_print.specs.Text.{label_line}
+use Rattle.ir_read.specs.Forms.{form_in}
+use Rattle.rf_text.specs.Shown.{IsLocalName, Shown, Fits}
+use Rattle.rf_text.specs.Written.{forms_of}
+
+-- lines with a line feed behind each
+abbrev pub joined : List (List ℕ) → List ℕ
+joined [] = []
+joined (l ∷ ls) = l ++ 10 ∷ joined ls
+
+-- the text is lines, of which each is read inside a function as its form; so none has a lexical fault
+pub record Printed (text : List ℕ) (forms : List Line) : Type 0 where
+  pub lines : List (List ℕ)
+  pub whole : text ≡ joined lines
+  pub each : map (form_in true) lines ≡ map Some forms
+
+-- an instruction, other than a call, is read again as it is printed, wherever it fits what is shown
+abbrev pub InstsAreReadAgain : Type 0
+InstsAreReadAgain = (ret : Ty) (ns : Names) (gs : List (List ℕ)) (i : Inst) → Shown ns gs → Fits ret ns gs i → Printed (inst_text ns gs i) (forms_of ns gs i)
+
+-- so is the label of a block
+abbrev pub LabelsAreReadAgain : Type 0
+LabelsAreReadAgain = (name : List ℕ) → IsLocalName name → Printed (label_line (Some name)) (Label name ∷ [])
+
+-- and so are the brace at the end of a function and the empty line between blocks
+abbrev pub BracesAreReadAgain : Type 0
+BracesAreReadAgain = Printed (codes "}\n") (Close ∷ [])
+
+abbrev pub GapsAreReadAgain : Type 0
+GapsAreReadAgain = Printed (codes "\n") (Empty ∷ [])
+
+two_lines : joined (codes "a" ∷ codes "b" ∷ []) ≡ codes "a\nb\n"
+two_lines = refl
