@@ -1,0 +1,2 @@
+-- What laws of printing and reading speak of.
+pub mod LinesOf

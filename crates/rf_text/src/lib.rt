@@ -1,0 +1,9 @@
+//! Laws: what is printed is read again as the same.
+//!
+//! There is no code that runs. Each law is the contract of a public function with an empty body, over the definitions of
+//! `ir_print` and of the readers; a caller that calls it has the law. Nothing here fails.
+#![tactic(auto)]
+
+mod outside;
+
+pub use outside::{forms_are_of_lines, kept_lines_again, lines_again};
