@@ -1,13 +1,13 @@
 -- Pieces of a text that stand one behind the other in a line: their tokens, their words, and the bytes from their first to their
 -- last token.
-use Rattle.std.proofs.Common.{◌≡◌, ℕ, suc, zero, ◌+◌, ◌≤◌, Bool, true, false, not, ◌&&◌, List, [], ◌∷◌, ◌++◌, length, map, drop, Option, Some, None, refl, sym, ◌∙◌, ap, subst, arith}
+use Rattle.std.proofs.Common.{◌≡◌, ℕ, ◌+◌, ◌≤◌, true, List, [], ◌∷◌, ◌++◌, length, map, drop, None, refl, ◌∙◌, ap, subst, arith}
 use Rattle.std.specs.List.{concat}
 use Rattle.ir_lex.specs.Ends.{ends_outside}
-use Rattle.ir_lex.specs.Scan.{cut_from, cut, texts, fault_of}
-use Rattle.ir_lex.specs.Words.{word, words}
+use Rattle.ir_lex.specs.Scan.{cut_from, cut, fault_of}
+use Rattle.ir_lex.specs.Words.{word}
 use Rattle.ir_lex.specs.declared.list.Token.{Token}
 use Rattle.ir_lex.proofs.Again.{stops}
-use Rattle.ir_lex.proofs.Standing.{shifted, EndBy, cut_end, word_in, fault_both, ends_both, Stands, Apart, stands_append, stands_space, words_stand}
+use Rattle.ir_lex.proofs.Standing.{shifted, EndBy, cut_end, word_in, fault_both, Stands, Apart, stands_append, stands_space}
 use Rattle.ir_line.specs.Headers.{last_to, span}
 use Rattle.ir_print.specs.Operands.{spaced}
 

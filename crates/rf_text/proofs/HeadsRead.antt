@@ -1,22 +1,21 @@
 -- How a header is read from the tokens of its parts.
-use Rattle.std.proofs.Common.{◌≡◌, ℕ, suc, zero, ◌+◌, ◌-◌, ◌≤◌, ◌<◌, Bool, true, false, cond, not, ◌&&◌, ◌||◌, List, [], ◌∷◌, ◌++◌, length, map, take, drop, Option, Some, None, codes, bytes_eq, nat_eq, refl, sym, ◌∙◌, ap, subst, arith, eqb-true, length-append, append_assoc}
+use Rattle.std.proofs.Common.{◌≡◌, ℕ, suc, ◌+◌, ◌-◌, ◌≤◌, ◌<◌, Bool, true, false, cond, not, ◌&&◌, List, [], ◌∷◌, ◌++◌, length, take, drop, Option, Some, None, codes, bytes_eq, nat_eq, refl, sym, ◌∙◌, ap, subst, arith, eqb-true, length-append, append_assoc}
 use Rattle.std.proofs.Math.Seq.{take-append_seam, drop-append_seam}
 use Rattle.std.proofs.lemmas.List.{map-append, length-map, drop-map}
 use Rattle.std.specs.List.{list_all}
 use Rattle.ir_lex.specs.Words.{word, words}
 use Rattle.ir_lex.specs.declared.list.Token.{Token}
 use Rattle.ir_lex.proofs.Again.{no_from}
-use Rattle.ir_lex.proofs.Classes.{both, clash}
+use Rattle.ir_lex.proofs.Classes.{both}
 use Rattle.ir_types.specs.declared.ty.Ty.{Ty}
-use Rattle.ir_types.specs.declared.ty.Ty.TheVariants.{Void, Int, Ptr, Row}
+use Rattle.ir_types.specs.declared.ty.Ty.TheVariants.{Void}
 use Rattle.ir_types.specs.declared.func.Param.{Param}
-use Rattle.ir_line.specs.declared.head.Head.{Head}
 use Rattle.ir_line.specs.Values.{width_of, named, local_of, symbol_of}
-use Rattle.ir_line.specs.Words.{Words, ◌>>=◌, one, is_first}
+use Rattle.ir_line.specs.Words.{Words, ◌>>=◌, is_first}
 use Rattle.ir_line.specs.Reading.{ty_at}
 use Rattle.ir_line.specs.Pieces.{SpellsTy, Integer, Pointer, Vector}
 use Rattle.ir_line.specs.Keeping.{is_some}
-use Rattle.ir_line.specs.Headers.{span, depth_after, goes_on, attrs_len, is_banned, ty_len, attrs_of, behind_attrs, name_of, behind_name, param, attributed, param_at, params_within, params_at, is_callee, name_from, last_tokens, whole, ret_of, head_of}
+use Rattle.ir_line.specs.Headers.{span, depth_after, goes_on, attrs_len, is_banned, ty_len, name_of, behind_name, param, attributed, param_at, params_within, params_at, is_callee, name_from, last_tokens, whole, ret_of, head_of}
 use Rattle.ir_line.proofs.Parts.{ty_takes, NoTy, ty_not}
 use Rattle.ir_line.proofs.Steps.{nothing, apart}
 use Rattle.rf_text.specs.KeptParts.{are_passed, are_attributes}

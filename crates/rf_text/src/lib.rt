@@ -6,4 +6,4 @@
 
 mod outside;
 
-pub use outside::{forms_are_of_lines, kept_lines_again, lines_again};
+pub use outside::{forms_are_of_lines, headers_again, kept_lines_again, lines_again};

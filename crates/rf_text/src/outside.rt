@@ -1,6 +1,7 @@
 //! Laws of what stands outside functions: the lines of a text, the lines that are kept, the headers of functions.
 
 ghost use Rattle.std.specs.Prelude.{◌≡◌, ℕ, List};
+ghost use Rattle.rf_text.specs.Headed.{HeadersAgain};
 ghost use Rattle.rf_text.specs.LinesOf.{LinesAgain, FormsAreOfLines, KeptAgain};
 
 /// Lines written one behind the other, each with a line feed behind it, are read as these lines.
@@ -16,4 +17,10 @@ pub fn forms_are_of_lines()
 /// What is kept of a line outside functions, without the spaces at its end, is read as the same.
 pub fn kept_lines_again()
     ensures { KeptAgain }
+{}
+
+/// The header line of a function whose header is of the profile, and whose parameters are all shown, is read as its header, each
+/// parameter by the name or number that is shown of it.
+pub fn headers_again()
+    ensures { HeadersAgain }
 {}
