@@ -114,7 +114,7 @@ callee_more : (d : ℕ) (t : List ℕ) (ws more : Words) → is_callee d t ws �
 callee_more d t [] more h e = rw e (and_false (nat_eq d 0) (is_some (symbol_of t)))
 callee_more d t (w ∷ ws) more h e = h
 
-callee_front : (d : ℕ) (t : List ℕ) (ws more : Words) → is_callee d t (ws ++ more) ≡ false → is_callee d t ws ≡ false
+pub callee_front : (d : ℕ) (t : List ℕ) (ws more : Words) → is_callee d t (ws ++ more) ≡ false → is_callee d t ws ≡ false
 callee_front d t [] more h = and_false (nat_eq d 0) (is_some (symbol_of t))
 callee_front d t (w ∷ ws) more h = h
 

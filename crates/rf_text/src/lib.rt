@@ -6,4 +6,6 @@
 
 mod outside;
 
-pub use outside::{forms_are_of_lines, headers_again, kept_lines_again, lines_again};
+pub use outside::{
+    forms_are_of_lines, headers_again, headers_are_heads, kept_lines_again, lines_again,
+};

@@ -1,7 +1,7 @@
 //! Laws of what stands outside functions: the lines of a text, the lines that are kept, the headers of functions.
 
 ghost use Rattle.std.specs.Prelude.{◌≡◌, ℕ, List};
-ghost use Rattle.rf_text.specs.Headed.{HeadersAgain};
+ghost use Rattle.rf_text.specs.Headed.{HeadersAgain, HeadersAreHeads};
 ghost use Rattle.rf_text.specs.LinesOf.{LinesAgain, FormsAreOfLines, KeptAgain};
 
 /// Lines written one behind the other, each with a line feed behind it, are read as these lines.
@@ -23,4 +23,10 @@ pub fn kept_lines_again()
 /// parameter by the name or number that is shown of it.
 pub fn headers_again()
     ensures { HeadersAgain }
+{}
+
+/// Every header of the profile that is read from a line without a lexical fault is one that is read again as the same: its kept
+/// parts, its types and its names are as the profile has them, whatever stood around them.
+pub fn headers_are_heads()
+    ensures { HeadersAreHeads }
 {}
