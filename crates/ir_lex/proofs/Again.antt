@@ -20,7 +20,7 @@ behind_append part [] cs = refl
 behind_append part (b ∷ bs) cs = behind_append (enter part b) bs cs
 
 -- a comment does not end in its line
-behind_comment : (bs : List ℕ) → behind Comment bs ≡ Comment
+pub behind_comment : (bs : List ℕ) → behind Comment bs ≡ Comment
 behind_comment [] = refl
 behind_comment (b ∷ bs) = behind_comment bs
 
@@ -73,7 +73,7 @@ abbrev pub Closes : List ℕ → Type 0
 Closes [] = Unit {0}
 Closes (b ∷ bs) = (b == quote) ≡ true → string_len bs ≢ 0
 
-no_from : (b : Bool) → not b ≡ true → b ≡ false
+pub no_from : (b : Bool) → not b ≡ true → b ≡ false
 no_from true h = cc
 no_from false h = refl
 
@@ -149,14 +149,14 @@ longest_alone b bs rest n l token = record {
 }
 
 -- where all strings are closed and no comment has begun, a string at the first byte closes
-closes_plain : (bs : List ℕ) → behind Plain bs ≡ Plain → Closes bs
+pub closes_plain : (bs : List ℕ) → behind Plain bs ≡ Plain → Closes bs
 closes_plain [] h = tt
 closes_plain (b ∷ bs) h = λ q z. let open_on : behind Quoted bs ≡ Quoted = string_open_on bs z in let e : behind (enter Plain b) bs ≡ Plain = h in quoted_not (rw (q, open_on) at e) where
   quoted_not : {P : Type 0} → Quoted ≡ Plain → P
   quoted_not e = cc
 
 -- a byte that is no quote and begins no comment opens nothing
-plain_byte : (b : ℕ) → (b == quote) ≡ false → (b == semicolon) ≡ false → enter Plain b ≡ Plain
+pub plain_byte : (b : ℕ) → (b == quote) ≡ false → (b == semicolon) ≡ false → enter Plain b ≡ Plain
 plain_byte b q s = rw (q, s) refl
 
 name_bytes : (bs : List ℕ) → is_name bs ≡ true → behind Plain bs ≡ Plain
@@ -172,7 +172,7 @@ string_bytes [] h = cc
 string_bytes (b ∷ bs) h = let q : (b == quote) ≡ true = (both _ _ h).0 in rw q (string_plain bs (both _ _ h).1)
 
 -- behind a token no string is open
-token_plain : (b : ℕ) (bs : List ℕ) → (b == semicolon) ≡ false → (bs ≡ [] → (b == quote) ≡ false) → IsToken b bs → behind Plain (b ∷ bs) ≡ Plain
+pub token_plain : (b : ℕ) (bs : List ℕ) → (b == semicolon) ≡ false → (bs ≡ [] → (b == quote) ≡ false) → IsToken b bs → behind Plain (b ∷ bs) ≡ Plain
 token_plain b bs s one (Name t h) = rw (plain_byte b (sigil_no_quote b t) s) (name_bytes bs h)
 token_plain b bs s one (QuotedName t h) = rw (plain_byte b (sigil_no_quote b t) s) (string_bytes bs h)
 token_plain b bs s one (Unnamed e h) = rw (plain_byte b (sigil_no_quote b (percent_sigil b e)) s) (number_bytes bs h)
@@ -188,7 +188,7 @@ not_quoted e = cc
 not_comment : {P : Type 0} → Comment ≡ Plain → P
 not_comment e = cc
 
-blank_plain : (b : ℕ) → is_blank b ≡ true → enter Plain b ≡ Plain
+pub blank_plain : (b : ℕ) → is_blank b ≡ true → enter Plain b ≡ Plain
 unfolding is_blank
 blank_plain b h =
     elim (either (b == 32) (b == 9) h) [
@@ -260,7 +260,7 @@ unfolding texts is_blank
 texts_space bs = refl
 
 -- where the walk finds no fault does not depend on the place of its first byte
-fault_shift : (part : Part) (at to : ℕ) (bs : List ℕ) → fault_from part at bs ≡ None → fault_from part to bs ≡ None
+pub fault_shift : (part : Part) (at to : ℕ) (bs : List ℕ) → fault_from part at bs ≡ None → fault_from part to bs ≡ None
 fault_shift part at to [] h = refl
 fault_shift part at to (b ∷ bs) h = here (begins_fault part (b ∷ bs)) h (fault_shift (enter part b) (at + 1) (to + 1) bs) where
   here : (t : Bool) → cond t (Some at) (fault_from (enter part b) (at + 1) bs) ≡ None →

@@ -7,3 +7,4 @@ pub mod Faulty
 pub mod Laws
 pub mod Longer
 pub mod Runs
+pub mod Standing

@@ -1,4 +1,11 @@
 -- Why what is printed is read again.
+pub mod HeadWords
+pub mod HeadsAgain
+pub mod HeadsFound
+pub mod HeadsPrinted
+pub mod HeadsRead
+pub mod HeadsTyped
+pub mod HeadsTypes
 pub mod Insts
 pub mod InstsAll
 pub mod InstsFlow
@@ -8,6 +15,7 @@ pub mod InstsSteps
 pub mod InstsSwitch
 pub mod InstsValues
 pub mod InstsVectors
+pub mod Kept
 pub mod Parts
 pub mod PartsBlocks
 pub mod PartsFlags
@@ -15,6 +23,8 @@ pub mod PartsLiterals
 pub mod PartsMemory
 pub mod PartsOperands
 pub mod PartsTypes
+pub mod Splitting
+pub mod Trimmed
 pub mod Words
 pub mod WordsNames
 pub mod WordsNumbers

@@ -1,9 +1,13 @@
 //! Laws: what is printed is read again as the same.
 //!
-//! There is no code that runs. Each law is the contract of a public function with an empty body, over the definitions of `ir_print`
-//! and `ir_read`; a caller that calls it has the law. Nothing here fails.
+//! There is no code that runs. Each law is the contract of a public function with an empty body, over the definitions of
+//! `ir_print` and of the readers; a caller that calls it has the law. Nothing here fails.
 #![tactic(auto)]
 
 mod instructions;
+mod outside;
 
 pub use instructions::{printed_braces, printed_instructions, printed_labels};
+pub use outside::{
+    forms_are_of_lines, headers_again, headers_are_heads, kept_lines_again, lines_again,
+};
