@@ -86,21 +86,21 @@ refused_for_good bytes (TwiceDefined line name) c m a = unresolved bytes _ _ c a
 refused_for_good bytes (Unknown line name) c m a = unresolved bytes _ _ c a.resolves
 refused_for_good bytes (IllTyped line) c m a = unresolved bytes _ _ c a.resolves
 refused_for_good bytes (NotAvailable line name walk) c m a =
-    let same : c.0.module ≡ m = ap (λ (r : Resolved). r.module) (resolves_once bytes _ _ c.1 a.resolves) in
-    module_fails c.2.user c.2.slot walk c.0.module c.2.first (subst (λ n. IsAvailable n) (sym same) a.available)
+    let same : c.0.«module» ≡ m = ap (λ (r : Resolved). r.«module») (resolves_once bytes _ _ c.1 a.resolves) in
+    module_fails c.2.user c.2.slot walk c.0.«module» c.2.first (subst (λ n. IsAvailable n) (sym same) a.available)
 refused_for_good bytes (BigEndian line) c m a =
-    let same : c.0.module ≡ m = ap (λ (r : Resolved). r.module) (resolves_once bytes _ _ c.1 a.resolves) in
+    let same : c.0.«module» ≡ m = ap (λ (r : Resolved). r.«module») (resolves_once bytes _ _ c.1 a.resolves) in
     let x : Some line ≡ None = sym c.3 ∙ ap (λ (n : Module). n.big_endian_line) same ∙ a.little_endian in cc
 
 -- the steps of accepting
 
-pub blamed : (bytes : List ℕ) (r : Resolved) (refusal : AvailRefusal) (fault : Fault) → Resolves bytes r → BlamesFirst r.module refusal → Blames r refusal fault → EndsBy bytes fault
+pub blamed : (bytes : List ℕ) (r : Resolved) (refusal : AvailRefusal) (fault : Fault) → Resolves bytes r → BlamesFirst r.«module» refusal → Blames r refusal fault → EndsBy bytes fault
 blamed bytes r (Miss user slot walk) fault resolves first (inl e) =
     subst (λ f. EndsBy bytes f) (sym e) (r, resolves, record { user = user; slot = slot; first = first; at = refl; shown = refl })
 blamed bytes r (Miss user slot walk) fault resolves first (inr e) = subst (λ f. EndsBy bytes f) (sym e) tt
 blamed bytes r AvailNoMemory fault resolves first e = subst (λ f. EndsBy bytes f) (sym e) tt
 
-pub ordered : (bytes : List ℕ) (r : Resolved) (answer : Result Module Fault) → Resolves bytes r → IsAvailable r.module → Orders r.module answer → AcceptsTo bytes answer
+pub ordered : (bytes : List ℕ) (r : Resolved) (answer : Result Module Fault) → Resolves bytes r → IsAvailable r.«module» → Orders r.«module» answer → AcceptsTo bytes answer
 ordered bytes r (Ok m) resolves fine o =
     subst (λ n. Accepts bytes n) (sym o.0) (record { lines = r.lines; resolves = resolves; available = fine; little_endian = o.1 })
 ordered bytes r (Err (Refused (BigEndian line))) resolves fine o = (r, resolves, fine, o)

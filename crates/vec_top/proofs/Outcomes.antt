@@ -1,5 +1,5 @@
 -- From what the words and the input come to, and what was written, to the reply.
-use Rattle.std.proofs.Common.{◌≡◌, ℕ, ◌<◌, ◌≤◌, List, ◌∷◌, ◌++◌, Some, None, Option, Result, Ok, Err, ◌⊎◌, inl, inr, refl, sym, subst, length, arith, Vec, Global, true, false}
+use Rattle.std.proofs.Common.{◌≡◌, ℕ, ◌<◌, ◌≤◌, List, ◌∷◌, ◌++◌, Some, None, Option, Result, Ok, Err, ◌⊎◌, inl, inr, refl, sym, ap, subst, length, arith, Vec, Global, true, false}
 use Rattle.std.specs.Prelude.{IfSome}
 use Rattle.std.specs.Io.KnownBytes.{Appends, Keeps, IsAtEnd}
 use Rattle.vx_io.specs.Bytes.{AppendsFront}
@@ -7,13 +7,16 @@ use Rattle.vx_io.specs.Count.{Rose}
 use Rattle.ir_types.specs.declared.module.Module.{Module}
 use Rattle.vec_words.specs.declared.commands.Command.{Command}
 use Rattle.vec_words.specs.Commands.{command_of}
+use Rattle.vec_words.specs.Answers.{Refuses}
+use Rattle.vec_words.specs.declared.refusal.WordsRefusal.{WordsRefusal}
+use Rattle.vec_words.specs.declared.refusal.WordsRefusal.TheVariants.{Word as Unfit, OutOfMemory}
 use Rattle.vec_top.specs.declared.cause.Cause.{Cause}
 use Rattle.vec_top.specs.declared.fault.Fault.{Fault}
 use Rattle.vec_top.specs.declared.fault.Fault.TheVariants.{Refused, Word, ReadFault, WriteFault, TooLong, NoMemory}
 use Rattle.vec_top.specs.Accepts.{Accepts, IsCause}
 use Rattle.vec_top.specs.Results.{result_of, KeepsMeaning}
 use Rattle.vec_top.specs.Replies.{Streams, Tells, IsTold, OnlyTells, ReadsAll, Done, IsRefused, Unheld, Misfit, ReadFailed, WriteFailed, PassesLimit, Starved, Replies, told}
-use Rattle.vec_top.specs.Making.{Makes, Nothing, Something, MakesNothing, MakesHeld, MakesFor, ReadsTo, Gives, Misfits}
+use Rattle.vec_top.specs.Making.{fault_for, Makes, Nothing, Something, MakesNothing, MakesHeld, MakesFor, ReadsTo, Gives, Misfits}
 use Rattle.vec_top.proofs.Accepting.{refused_for_good}
 
 keeps_same : (o : Option (List ℕ)) → Keeps o o
@@ -39,7 +42,7 @@ module _ (ws : List (List ℕ)) (l l' : Option (List ℕ)) (b n : ℕ) (o : Opti
   starved : n ≡ b → (g : Fault) → g ≡ NoMemory → Tells e e' ef ef' (told g) → Replies ws quiet (Some g)
   starved same g p t = as_told NoMemory g p t (λ u. record { read_faults = same; tells = only NoMemory u })
 
-  all_of : (c : Command) → command_of ws ≡ Ok c → (Holds : List ℕ → Type 0) → ReadsTo l l' b n Holds → ReadsAll ws quiet
+  abbrev all_of : (c : Command) → command_of ws ≡ Ok c → (Holds : List ℕ → Type 0) → ReadsTo l l' b n Holds → ReadsAll ws quiet
   all_of c says Holds r = record { command = c; says = says; ends = r.ends; read_faults = r.quiet; within = r.within }
 
   refused : (cause : Cause) (g : Fault) (c : Command) → command_of ws ≡ Ok c → ReadsTo l l' b n (λ bytes. IsCause bytes cause) → IsTold (Refused cause) g → Tells e e' ef ef' (told g) → Replies ws quiet (Some g)
@@ -84,7 +87,7 @@ module _ (ws : List (List ℕ)) (l l' : Option (List ℕ)) (b n : ℕ) (o o' : O
   abbrev written : Streams
   written = record { left = l; left_after = l'; read_faults = b; read_faults_after = n; out = o; out_after = o'; out_faults = of'; out_faults_after = of''; room = room; err = e; err_after = e'; err_faults = ef; err_faults_after = ef' }
 
-  everything : (c : Command) → command_of ws ≡ Ok c → ReadsTo l l' b n (Gives c text.items) → ReadsAll ws written
+  abbrev everything : (c : Command) → command_of ws ≡ Ok c → ReadsTo l l' b n (Gives c text.items) → ReadsAll ws written
   everything c says r = record { command = c; says = says; ends = r.ends; read_faults = r.quiet; within = r.within }
 
   pub from_whole : Makes ws l l' b n (Ok text) → Appends o o' text.items → of'' ≡ of' → e' ≡ e → ef' ≡ ef → Done ws written
@@ -111,6 +114,11 @@ module _ (ws : List (List ℕ)) (l l' : Option (List ℕ)) (b n : ℕ) (o o' : O
   pub from_failed : (g : Fault) → g ≡ WriteFault → Makes ws l l' b n (Ok text) → AppendsFront o o' text.items → Rose of' of'' → IfSome room (λ k. k < length text.items) → Tells e e' ef ef' (told g) → Replies ws written (Some g)
   from_failed g same made front rose sure t =
       let P : Fault → Type 0 = λ h. Tells e e' ef ef' (told h) → Replies ws written (Some h) in subst P (sym same) (front_of made front rose sure) t
+
+-- words that do not hold, and want of memory, before anything is read
+pub unheld_first : (ws : List (List ℕ)) (l : Option (List ℕ)) (n : ℕ) (refusal : WordsRefusal) (fault : Fault) → fault ≡ fault_for refusal → Refuses refusal (command_of ws) → Makes ws l l n n (Err fault)
+unheld_first ws l n (Unfit place) fault same e = Nothing (Word place) (ap Err same) (record { unheld = e; unread = keeps_same l; quiet = refl })
+unheld_first ws l n OutOfMemory fault same e = Nothing NoMemory (ap Err same) (record { unheld = tt; unread = keeps_same l; quiet = refl })
 
 -- a write that failed was not sure of room
 pub not_sure : (room : Option ℕ) (xs : List ℕ) → IfSome room (λ k. length xs ≤ k → false ≡ true) → IfSome room (λ k. k < length xs)

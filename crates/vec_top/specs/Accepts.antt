@@ -35,7 +35,7 @@ pub record Resolves (bytes : List ℕ) (r : Resolved) : Type 0 where
 -- the text is the module, and nothing is wrong with it
 pub record Accepts (bytes : List ℕ) (m : Module) : Type 0 where
   pub lines : List ℕ
-  pub resolves : Resolves bytes (record { module = m; lines = lines })
+  pub resolves : Resolves bytes (record { «module» = m; lines = lines })
   pub available : IsAvailable m
   pub little_endian : m.big_endian_line ≡ None
 
@@ -81,9 +81,9 @@ line_of r id = unwrap_or (slice_get r.lines id.k) 0
 pub record IsMissed (r : Resolved) (line : ℕ) (name walk : List ℕ) : Type 0 where
   pub user : Id
   pub slot : ℕ
-  pub first : IsFirstMiss user slot walk r.module
+  pub first : IsFirstMiss user slot walk r.«module»
   pub at : line ≡ line_of r user
-  pub shown : name ≡ unwrap_or (operand_in user slot r.module.items) []
+  pub shown : name ≡ unwrap_or (operand_in user slot r.«module».items) []
 
 -- the cause is the first against the text
 abbrev pub IsCause : List ℕ → Cause → Type 0
@@ -95,4 +95,4 @@ IsCause bytes (TwiceDefined line name) = IsUnresolved bytes (unresolved.TwiceDef
 IsCause bytes (Unknown line name) = IsUnresolved bytes (unresolved.Unknown line name)
 IsCause bytes (IllTyped line) = IsUnresolved bytes (unresolved.IllTyped line)
 IsCause bytes (NotAvailable line name walk) = (r : Resolved) × Resolves bytes r × IsMissed r line name walk
-IsCause bytes (BigEndian line) = (r : Resolved) × Resolves bytes r × IsAvailable r.module × (r.module.big_endian_line ≡ Some line)
+IsCause bytes (BigEndian line) = (r : Resolved) × Resolves bytes r × IsAvailable r.«module» × (r.«module».big_endian_line ≡ Some line)

@@ -11,6 +11,8 @@ use Rattle.ir_types_check.specs.declared.resolved.Resolved.{Resolved}
 use Rattle.ir_types_check.specs.Resolved.{resolved_of}
 use Rattle.vec_words.specs.declared.commands.Command.{Command}
 use Rattle.vec_words.specs.Commands.{command_of}
+use Rattle.vec_words.specs.declared.refusal.WordsRefusal.{WordsRefusal}
+use Rattle.vec_words.specs.declared.refusal.WordsRefusal.TheVariants.{Word as Unfit, OutOfMemory as Exhausted}
 use Rattle.vec_words.specs.declared.starts.Start.{Start}
 use Rattle.vec_words.specs.Starts.{start_of}
 use Rattle.ir_avail.specs.declared.refusal.AvailRefusal.{AvailRefusal}
@@ -46,7 +48,7 @@ AcceptsTo bytes (Err fault) = EndsBy bytes fault
 -- the fault that tells of a use that is not available
 abbrev pub Blames : Resolved → AvailRefusal → Fault → Type 0
 Blames r (Miss user slot walk) fault =
-    (fault ≡ Refused (NotAvailable (line_of r user) (unwrap_or (operand_in user slot r.module.items) []) walk)) ⊎ (fault ≡ NoMemory)
+    (fault ≡ Refused (NotAvailable (line_of r user) (unwrap_or (operand_in user slot r.«module».items) []) walk)) ⊎ (fault ≡ NoMemory)
 Blames r AvailNoMemory fault = fault ≡ NoMemory
 
 -- the module itself, where its layout has the low byte first
@@ -99,6 +101,11 @@ MakesFor c left after before now (Err ReadFault) = Rose before now
 MakesFor c left after before now (Err WriteFault) = ⊥
 MakesFor c left after before now (Err TooLong) = (now ≡ before) × IfSome left (λ bytes. byte_limit < length bytes)
 MakesFor c left after before now (Err NoMemory) = now ≡ before
+
+-- the fault of words that do not hold
+abbrev pub fault_for : WordsRefusal → Fault
+fault_for (Unfit place) = Word place
+fault_for Exhausted = NoMemory
 
 -- the words hold as a command, and that and the input come to this
 abbrev pub MakesHeld : List (List ℕ) → Option (List ℕ) → Option (List ℕ) → ℕ → ℕ → Result (Vec ℕ Global) Fault → Type 0

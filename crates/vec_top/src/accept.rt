@@ -3,7 +3,8 @@
 //! `accepted` is the one entry point: it reads the text, looks its names up and checks its types, then checks that each use is
 //! available, then the layout. It answers with the module, or with the first cause against the text, or want of memory.
 
-ghost use Rattle.std.specs.Prelude.{◌≡◌, ◌+◌, ◌<◌, ◌^◌, IfOk, length, slice_get, unwrap_or};
+ghost use Rattle.std.specs.Prelude.{◌≡◌, ◌+◌, ◌<◌, ◌^◌, IfOk, [], length, slice_get, unwrap_or};
+ghost use Rattle.ir_types.specs.Available as available;
 ghost use Rattle.std.specs.Option.{option_copied};
 ghost use Rattle.vec_top.specs.Accepts as accepts;
 ghost use Rattle.vec_top.specs.Making as making;
@@ -42,15 +43,24 @@ fn resolved(alloc: Global, bytes: &[u8]) -> Result<Resolved, Fault>
     let draft = drafted(alloc, bytes)?;
     match resolve(alloc, &draft) {
         Ok(resolved) => Ok(resolved),
-        Err(ResolveRefusal::TwiceDefined { line, name }) => Err(
-            Fault::Refused(Cause::TwiceDefined { line, name }),
-        ),
-        Err(ResolveRefusal::Unknown { line, name }) => Err(
-            Fault::Refused(Cause::Unknown { line, name }),
-        ),
+        Err(ResolveRefusal::TwiceDefined { line, name }) => Err(Fault::Refused(Cause::TwiceDefined {
+            line,
+            name,
+        })),
+        Err(ResolveRefusal::Unknown { line, name }) => Err(Fault::Refused(Cause::Unknown {
+            line,
+            name,
+        })),
         Err(ResolveRefusal::IllTyped { line }) => Err(Fault::Refused(Cause::IllTyped { line })),
         Err(ResolveRefusal::OutOfMemory) => Err(Fault::NoMemory),
     }
+}
+
+/// Whether both are one id.
+fn is(id: Id, other: Id) -> bool
+    ensures { result ≡ available.same_id id other }
+{
+    id.region == other.region && id.k == other.k
 }
 
 /// The first instruction of an id.
@@ -58,7 +68,7 @@ fn inst_among(id: Id, insts: &[Inst]) -> Option<&Inst>
     ensures { option_copied result ≡ accepts.inst_among id insts.now }
 {
     for inst in insts {
-        if inst.id == id {
+        if is(inst.id, id) {
             return Some(inst);
         }
     }
@@ -77,29 +87,24 @@ fn inst_in(id: Id, blocks: &[Block]) -> Option<&Inst>
     None
 }
 
-/// What is shown in a function of an operand that is a value.
-fn shown_operand(alloc: Global, func: &Func, opd: Option<&Opd>) -> Result<Bytes, AllocError>
-    ensures { IfOk result (λ name. name ≡ accepts.shown_operand func.now (option_copied opd)) }
+/// What is shown in a function of the operand in a slot of an instruction, if it is a value.
+fn shown_operand(alloc: Global, func: &Func, inst: &Inst, slot: u32) -> Result<Bytes, AllocError>
+    ensures { IfOk result (λ name. name ≡ accepts.shown_operand func.now (slice_get inst.now.opds slot)) }
 {
-    match opd {
+    match inst.opds.as_slice().get(slot as usize) {
         Some(Opd::Val(id)) => shown_name(alloc, func, *id),
         _ => Ok(Seq::new(alloc)),
     }
 }
 
 /// What is shown of the operand in a slot of an instruction; nothing where the items lack it.
-fn operand_in(
-    alloc: Global,
-    id: Id,
-    slot: u32,
-    items: &[Item],
-) -> Result<Bytes, AllocError>
+fn operand_in(alloc: Global, id: Id, slot: u32, items: &[Item]) -> Result<Bytes, AllocError>
     ensures { IfOk result (λ name. name ≡ unwrap_or (accepts.operand_in id slot items.now) []) }
 {
     for item in items {
         if let Item::Func(func) = item {
             if let Some(inst) = inst_in(id, func.blocks.as_slice()) {
-                return shown_operand(alloc, func, inst.opds.as_slice().get(slot as usize));
+                return shown_operand(alloc, func, inst, slot);
             }
         }
     }
@@ -124,7 +129,7 @@ fn missed(
     slot: u32,
     walk: Numbers,
 ) -> Result<Cause, AllocError>
-    ensures { IfOk result (λ cause. cause ≡ Cause.NotAvailable (accepts.line_of resolved.now user) (unwrap_or (accepts.operand_in user slot resolved.now.module.items) []) walk) }
+    ensures { IfOk result (λ cause. cause ≡ Cause.NotAvailable (accepts.line_of resolved.now user) (unwrap_or (accepts.operand_in user slot resolved.now.«module».items) []) walk) }
 {
     let name = operand_in(alloc, user, slot, resolved.module.items.as_slice())?;
     Ok(Cause::NotAvailable {
@@ -140,11 +145,7 @@ fn unavailable(alloc: Global, resolved: &Resolved, refusal: AvailRefusal) -> Fau
 {
     match refusal {
         AvailRefusal::NotAvailable { user, slot, walk } => match missed(
-            alloc,
-            resolved,
-            user,
-            slot,
-            walk,
+            alloc, resolved, user, slot, walk,
         ) {
             Ok(cause) => Fault::Refused(cause),
             Err(_) => Fault::NoMemory,
@@ -154,12 +155,12 @@ fn unavailable(alloc: Global, resolved: &Resolved, refusal: AvailRefusal) -> Fau
 }
 
 /// The module, where no line says that the high byte comes first.
-fn little_endian(module: Module) -> Result<Module, Fault>
-    ensures { making.Orders module result }
+fn little_endian(m: Module) -> Result<Module, Fault>
+    ensures { making.Orders m result }
 {
-    match module.big_endian_line {
+    match m.big_endian_line {
         Some(line) => Err(Fault::Refused(Cause::BigEndian { line })),
-        None => Ok(module),
+        None => Ok(m),
     }
 }
 

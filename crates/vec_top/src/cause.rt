@@ -17,25 +17,42 @@ use thiserror::Error;
 pub enum Cause {
     /// A byte that no line may have, or the quote of a string that does not close.
     #[error("line {line} byte {byte}: lexical fault")]
-    Lex { line: u32, byte: u32 },
+    Lex {
+        line: u32,
+        byte: u32,
+    },
     /// A line outside the profile.
     #[error("line {line}: not a line of the profile")]
-    NotALine { line: u32 },
+    NotALine {
+        line: u32,
+    },
     /// A line of the profile in the wrong place.
     #[error("line {line}: misplaced")]
-    Misplaced { line: u32 },
+    Misplaced {
+        line: u32,
+    },
     /// A limit is passed.
     #[error("limit: {limit}")]
-    Passes { limit: Limit },
+    Passes {
+        limit: Limit,
+    },
     /// A name that an earlier line has defined.
     #[error("line {line}: a name is defined twice")]
-    TwiceDefined { line: u32, name: Bytes },
+    TwiceDefined {
+        line: u32,
+        name: Bytes,
+    },
     /// A name that nothing defines.
     #[error("line {line}: a name is unknown")]
-    Unknown { line: u32, name: Bytes },
+    Unknown {
+        line: u32,
+        name: Bytes,
+    },
     /// A line whose types, targets, cases or incoming blocks do not fit.
     #[error("line {line}: ill typed")]
-    IllTyped { line: u32 },
+    IllTyped {
+        line: u32,
+    },
     /// A use whose definition does not stand before it along these blocks, by their numbers from 0.
     #[error("line {line}: a value is not available")]
     NotAvailable {
@@ -45,7 +62,9 @@ pub enum Cause {
     },
     /// A layout with the high byte first.
     #[error("line {line}: big-endian layout")]
-    BigEndian { line: u32 },
+    BigEndian {
+        line: u32,
+    },
 }
 
 impl Cause {
@@ -80,16 +99,28 @@ fn push_line(out: &mut Vec<u8>, line: u32, what: &[u8]) -> Result<(), AllocError
 }
 
 /// What is said of a name in a line.
-fn push_named(
-    out: &mut Vec<u8>,
-    line: u32,
-    name: &[u8],
-    what: &[u8],
-) -> Result<(), AllocError>
+fn push_named(out: &mut Vec<u8>, line: u32, name: &[u8], what: &[u8]) -> Result<(), AllocError>
     ensures { OnOk result (out.new.items ≡ out.old.items ++ replies.said_of_line line (name.now ++ what.now)) }
 {
     push_line(out, line, name)?;
     out.extend_from_slice(what)?;
+    Ok(())
+}
+
+/// What is said of a lexical fault behind its byte.
+fn push_lexical(out: &mut Vec<u8>) -> Result<(), AllocError>
+    ensures { OnOk result (out.new.items ≡ out.old.items ++ codes ": lexical fault") }
+{
+    out.extend_from_slice(b": lexical fault")?;
+    Ok(())
+}
+
+fn push_byte(out: &mut Vec<u8>, byte: u32) -> Result<(), AllocError>
+    ensures { OnOk result (out.new.items ≡ out.old.items ++ (codes " byte " ++ (decimal byte ++ codes ": lexical fault"))) }
+{
+    out.extend_from_slice(b" byte ")?;
+    push_decimal(out, byte)?;
+    push_lexical(out)?;
     Ok(())
 }
 
@@ -98,9 +129,7 @@ fn push_lex(out: &mut Vec<u8>, line: u32, byte: u32) -> Result<(), AllocError>
 {
     out.extend_from_slice(b"line ")?;
     push_decimal(out, line)?;
-    out.extend_from_slice(b" byte ")?;
-    push_decimal(out, byte)?;
-    out.extend_from_slice(b": lexical fault")?;
+    push_byte(out, byte)?;
     Ok(())
 }
 
@@ -115,12 +144,7 @@ fn push_walk(out: &mut Vec<u8>, walk: &[u32]) -> Result<(), AllocError>
     Ok(())
 }
 
-fn push_missed(
-    out: &mut Vec<u8>,
-    line: u32,
-    name: &[u8],
-    walk: &[u32],
-) -> Result<(), AllocError>
+fn push_missed(out: &mut Vec<u8>, line: u32, name: &[u8], walk: &[u32]) -> Result<(), AllocError>
     ensures { OnOk result (out.new.items ≡ out.old.items ++ replies.said_of_line line (name.now ++ (codes " not available along blocks" ++ replies.walk_text walk.now))) }
 {
     push_named(out, line, name, b" not available along blocks")?;

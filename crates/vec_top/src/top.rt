@@ -39,14 +39,23 @@ fn make_for<S: Source>(alloc: Global, command: &Command, input: &mut S) -> Resul
     }
 }
 
+/// The fault of words that do not hold.
+fn fault_for(refusal: WordsRefusal) -> Fault
+    ensures { result ≡ making.fault_for refusal }
+{
+    match refusal {
+        WordsRefusal::Word { place } => Fault::Word(place),
+        WordsRefusal::OutOfMemory => Fault::NoMemory,
+    }
+}
+
 /// The text to write, from the words and the input.
 fn make<S: Source>(alloc: Global, words: &[String], input: &mut S) -> Result<Vec<u8>, Fault>
     ensures { making.Makes (map string_bytes words.now) (S.left input.old) (S.left input.new) (S.faults input.old) (S.faults input.new) result }
 {
     match command(alloc, words) {
         Ok(command) => make_for(alloc, &command, input),
-        Err(WordsRefusal::Word { place }) => Err(Fault::Word(place)),
-        Err(WordsRefusal::OutOfMemory) => Err(Fault::NoMemory),
+        Err(refusal) => Err(fault_for(refusal)),
     }
 }
 
