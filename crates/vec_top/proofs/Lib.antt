@@ -1,5 +1,2 @@
-pub mod Agree
-pub mod Known
+pub mod Accepting
 pub mod Outcomes
-pub mod Splitting
-pub mod Words

@@ -1,7 +1,6 @@
--- What the program promises. `Reads` says which texts are modules of the first forms.
-pub mod Lines
-pub mod Forms
-pub mod Function
-pub mod Gives
-pub mod Reads
+-- What the program promises: which texts are modules that it accepts and why it refuses the others (`Accepts`), what each command
+-- makes of a module (`Results`), and what stands at each reply (`Replies`).
+pub mod Accepts
+pub mod Results
 pub mod Replies
+pub mod Making

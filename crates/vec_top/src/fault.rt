@@ -2,23 +2,24 @@
 //!
 //! `line_of` makes that line; want of memory is its only failure.
 
-ghost use Rattle.std.specs.Prelude.{◌≡◌, ◌++◌, codes, IfOk, OnOk, Ok, Err, Result};
+ghost use Rattle.std.specs.Prelude.{◌≡◌, ◌++◌, codes, IfOk, OnOk};
 ghost use Rattle.std.specs.Fmt.{decimal};
 ghost use Rattle.vec_top.specs.Replies as replies;
+ghost use Rattle.vec_top.specs.declared.fault.Fault.TheVariants.{NoMemory};
 
-use itoa::Buffer;
-use std::alloc::{AllocError, Global};
+use crate::cause::{Cause, push_decimal, push_said as push_cause};
+use std::alloc::{AllocError, AllocFailed, Global};
 use thiserror::Error;
 
 /// What ended a command.
-#[derive(Clone, Copy, Debug, PartialEq, Eq, Error)]
+#[derive(Debug, Drop, Error)]
 pub enum Fault {
-    /// The first line that cannot stand, from 1.
-    #[error("line {0}: not a line of the profile")]
-    Line(u64),
+    /// The input is no module that the program accepts.
+    #[error("{0}")]
+    Refused(Cause),
     /// The place, from 0, of the first word that cannot stand, or the number of words where one is missing.
     #[error("words: {0}")]
-    Word(u64),
+    Word(u32),
     /// A read failed.
     #[error("read fault")]
     ReadFault,
@@ -33,13 +34,29 @@ pub enum Fault {
     NoMemory,
 }
 
+impl From<AllocError> for Fault {
+    ghost from_gives = { λ _ fault. fault ≡ NoMemory };
+
+    fn from(_error: AllocError) -> Fault {
+        Fault::NoMemory
+    }
+}
+
+impl<T: Drop> From<AllocFailed<T>> for Fault {
+    ghost from_gives = { λ _ fault. fault ≡ NoMemory };
+
+    fn from(_error: AllocFailed<T>) -> Fault {
+        Fault::NoMemory
+    }
+}
+
 impl Fault {
     /// The exit status.
-    pub(crate) fn status(self) -> u8
-        ensures { result ≡ replies.status_of self }
+    pub(crate) fn status(&self) -> u8
+        ensures { result ≡ replies.status_of self.now }
     {
         match self {
-            Fault::Line(_) => 1,
+            Fault::Refused(cause) => cause.status(),
             Fault::Word(_) => 2,
             Fault::ReadFault => 3,
             Fault::WriteFault => 4,
@@ -49,37 +66,20 @@ impl Fault {
     }
 }
 
-fn push_decimal(out: &mut Vec<u8>, n: u64) -> Result<(), AllocError>
-    ensures { OnOk result (out.new.items ≡ out.old.items ++ decimal n) }
-{
-    let mut buffer = Buffer::new();
-    out.extend_from_slice(buffer.format(n).as_bytes())?;
-    Ok(())
-}
-
-fn push_line(out: &mut Vec<u8>, n: u64) -> Result<(), AllocError>
-    ensures { OnOk result (out.new.items ≡ out.old.items ++ (codes "line " ++ (decimal n ++ codes ": not a line of the profile"))) }
-{
-    out.extend_from_slice(b"line ")?;
-    push_decimal(out, n)?;
-    out.extend_from_slice(b": not a line of the profile")?;
-    Ok(())
-}
-
-fn push_word(out: &mut Vec<u8>, k: u64) -> Result<(), AllocError>
-    ensures { OnOk result (out.new.items ≡ out.old.items ++ (codes "words: " ++ decimal k)) }
+fn push_word(out: &mut Vec<u8>, place: u32) -> Result<(), AllocError>
+    ensures { OnOk result (out.new.items ≡ out.old.items ++ (codes "words: " ++ decimal place)) }
 {
     out.extend_from_slice(b"words: ")?;
-    push_decimal(out, k)?;
+    push_decimal(out, place)?;
     Ok(())
 }
 
-fn push_said(out: &mut Vec<u8>, fault: Fault) -> Result<(), AllocError>
-    ensures { OnOk result (out.new.items ≡ out.old.items ++ replies.said_of fault) }
+fn push_said(out: &mut Vec<u8>, fault: &Fault) -> Result<(), AllocError>
+    ensures { OnOk result (out.new.items ≡ out.old.items ++ replies.said_of fault.now) }
 {
     match fault {
-        Fault::Line(n) => push_line(out, n),
-        Fault::Word(k) => push_word(out, k),
+        Fault::Refused(cause) => push_cause(out, cause),
+        Fault::Word(place) => push_word(out, *place),
         Fault::ReadFault => out.extend_from_slice(b"read fault"),
         Fault::WriteFault => out.extend_from_slice(b"write fault"),
         Fault::TooLong => out.extend_from_slice(b"limit: bytes"),
@@ -88,8 +88,8 @@ fn push_said(out: &mut Vec<u8>, fault: Fault) -> Result<(), AllocError>
 }
 
 /// The line that tells a fault.
-pub(crate) fn line_of(alloc: Global, fault: Fault) -> Result<Vec<u8>, AllocError>
-    ensures { IfOk result (λ line. line.items ≡ replies.told fault) }
+pub(crate) fn line_of(alloc: Global, fault: &Fault) -> Result<Vec<u8>, AllocError>
+    ensures { IfOk result (λ line. line.items ≡ replies.told fault.now) }
 {
     let mut line = Vec::new(alloc);
     line.extend_from_slice(b"sandvec: ")?;

@@ -1,13 +1,13 @@
 //! The program as a function of its words and streams.
 //!
 //! `sandvec_alone` is the one entry point: it reads the words, then the input, then writes, and answers the exit status. What it
-//! promises at each status stands in its clauses, whose words are in `specs/Replies` and `specs/Reads`.
+//! promises at each status stands in its clauses, whose words are in `specs/Replies`, `specs/Accepts` and `specs/Results`.
 #![tactic(auto)]
 
-mod command;
+mod accept;
+mod cause;
 mod fault;
-mod first_forms;
-mod lines;
+mod results;
 mod top;
 
 pub use top::sandvec_alone;

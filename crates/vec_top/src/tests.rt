@@ -15,6 +15,21 @@ const PRINTED: &[u8] =
 const LOAD_BETWEEN: &[u8] =
     b"define void @b(ptr %p) {\n  %q = getelementptr i8, ptr %p, i64 4\n  store i32 7, ptr %p, align 4\n  %x = load i32, ptr %p, align 4\n  store i32 8, ptr %q, align 4\n  ret void\n}\n";
 
+/// A loop that stores two numbers of 16 bits a round.
+const LOOP: &[u8] =
+    b"define void @l(ptr noalias %r, i64 %n) {\nentry:\n  br label %loop\n\nloop:\n  %i = phi i64 [ 0, %entry ], [ %i2, %loop ]\n  %p0 = getelementptr inbounds i16, ptr %r, i64 %i\n  store i16 5, ptr %p0, align 2\n  %j = or disjoint i64 %i, 1\n  %p1 = getelementptr inbounds i16, ptr %r, i64 %j\n  store i16 6, ptr %p1, align 2\n  %i2 = add nuw nsw i64 %i, 2\n  %c = icmp eq i64 %i2, %n\n  br i1 %c, label %done, label %loop\n\ndone:\n  ret void\n}\n";
+
+/// A block that no walk reaches uses itself.
+const DEAD: &[u8] =
+    b"define void @u() {\n  ret void\n\ndead:\n  %x = add i32 %x, 1\n  br label %dead\n}\n";
+
+/// A module as a compiler writes it, and as it is printed.
+const COMPILED: &[u8] =
+    b"source_filename = \"a.c\"   \r\ntarget datalayout = \"e-m:e-i64:64-n8:16:32:64-S128\"\n; a comment\n@g = dso_local global i32 0, align 4\ndefine dso_local i32 @f(ptr noundef %0, i32 range(i32 0, 8) %n) local_unnamed_addr #0 {\n  %2 = load i32, ptr @g, align 4, !tbaa !1 ; here\n  %c = icmp samesign ult i32 %2, 007\n  br i1 %c, label %3, label %b\n\n3:\n  %4 = add nsw nuw i32 %2, 4294967295\n  br label %b\nb:\n  %x = phi i32 [ %4, %3 ], [ 0, %1 ]\n  ret i32 %x\n}\nattributes #0 = { nounwind }\n!1 = !{!2}\n";
+
+const COMPILED_PRINTED: &[u8] =
+    b"source_filename = \"a.c\"\ntarget datalayout = \"e-m:e-i64:64-n8:16:32:64-S128\"\n@g = dso_local global i32 0, align 4\n\ndefine dso_local i32 @f(ptr noundef %0, i32 range(i32 0, 8) %n) local_unnamed_addr #0 {\n  %2 = load i32, ptr @g, align 4\n  %c = icmp ult i32 %2, 7\n  br i1 %c, label %3, label %b\n\n3:\n  %4 = add nuw nsw i32 %2, -1\n  br label %b\n\nb:\n  %x = phi i32 [ %4, %3 ], [ 0, %1 ]\n  ret i32 %x\n}\n\nattributes #0 = { nounwind }\n!1 = !{!2}\n";
+
 /// A row: the words, the input, the status, and what `out` and `err` take.
 #[derive(Clone, Copy)]
 struct Row {
@@ -48,7 +63,7 @@ fn rows_hold(rt: &impl Abort, alloc: Global, rows: &[Row]) -> Result<(), Fail> {
 }
 
 #[test]
-fn rows_are_answered(rt: HostRuntime) -> Result<(), Fail> {
+fn modules_are_printed(rt: HostRuntime) -> Result<(), Fail> {
     let rows = [
         Row {
             words: &["print"],
@@ -59,7 +74,7 @@ fn rows_are_answered(rt: HostRuntime) -> Result<(), Fail> {
         },
         Row {
             words: &["print"],
-            input: b" \n\t\r\n\n",
+            input: b" \n\t\r\n\n; nothing\n",
             status: 0,
             out: b"",
             err: b"",
@@ -80,80 +95,31 @@ fn rows_are_answered(rt: HostRuntime) -> Result<(), Fail> {
         },
         Row {
             words: &["print"],
-            input: b"\r\ndefine void @c (i32 %n,ptr %p){\r\n%q=getelementptr i8,ptr %p,i64 -8\r\nstore <2 x i32><i32 7, i32 -2147483648>,ptr %q,align 016\r\nstore i32 %n, ptr %p\r\nret void\r\n} ",
+            input: COMPILED,
             status: 0,
-            out: b"define void @c(i32 %n, ptr %p) {\n  %q = getelementptr i8, ptr %p, i64 -8\n  store <2 x i32> <i32 7, i32 -2147483648>, ptr %q, align 16\n  store i32 %n, ptr %p, align 1\n  ret void\n}\n",
+            out: COMPILED_PRINTED,
             err: b"",
         },
         Row {
             words: &["print"],
-            input: b"define void @a(ptr %p, ptr %q) {\n  %x = load i32, ptr %p\n  %y = add i32 %z, 4294967295\n  ret void\n}\n",
-            status: 1,
-            out: b"",
-            err: b"sandvec: line 3: not a line of the profile\n",
+            input: COMPILED_PRINTED,
+            status: 0,
+            out: COMPILED_PRINTED,
+            err: b"",
         },
         Row {
             words: &["print"],
-            input: b"define void @a() {\n  ret void\n",
-            status: 1,
-            out: b"",
-            err: b"sandvec: line 3: not a line of the profile\n",
+            input: LOOP,
+            status: 0,
+            out: LOOP,
+            err: b"",
         },
         Row {
             words: &["print"],
-            input: b"define void @a() {\n}\n",
-            status: 1,
-            out: b"",
-            err: b"sandvec: line 2: not a line of the profile\n",
-        },
-        Row {
-            words: &["print"],
-            input: b"define void @a(i32 %x, ptr %x) {\n  ret void\n}\n",
-            status: 1,
-            out: b"",
-            err: b"sandvec: line 1: not a line of the profile\n",
-        },
-        Row {
-            words: &["print"],
-            input: b"define void @a(i32 %x) {\n  store i32 1, ptr %x\n  ret void\n}\n",
-            status: 1,
-            out: b"",
-            err: b"sandvec: line 2: not a line of the profile\n",
-        },
-        Row {
-            words: &["print"],
-            input: b"define void @a(ptr %p) {\n  store i32 4294967296, ptr %p\n  ret void\n}\n",
-            status: 1,
-            out: b"",
-            err: b"sandvec: line 2: not a line of the profile\n",
-        },
-        Row {
-            words: &["print"],
-            input: b"define void @a(ptr %p) {\n  store i32 1, ptr %p, align 3\n  ret void\n}\n",
-            status: 1,
-            out: b"",
-            err: b"sandvec: line 2: not a line of the profile\n",
-        },
-        Row {
-            words: &["print"],
-            input: b"define void @a() {\n  ret void ; done\n}\n",
-            status: 1,
-            out: b"",
-            err: b"sandvec: line 2: not a line of the profile\n",
-        },
-        Row {
-            words: &[],
-            input: PLAIN,
-            status: 2,
-            out: b"",
-            err: b"sandvec: words: 0\n",
-        },
-        Row {
-            words: &["run"],
-            input: PLAIN,
-            status: 2,
-            out: b"",
-            err: b"sandvec: words: 0\n",
+            input: DEAD,
+            status: 0,
+            out: DEAD,
+            err: b"",
         },
         Row {
             words: &["opt"],
@@ -177,6 +143,125 @@ fn rows_are_answered(rt: HostRuntime) -> Result<(), Fail> {
             err: b"",
         },
         Row {
+            words: &["opt"],
+            input: COMPILED,
+            status: 0,
+            out: COMPILED_PRINTED,
+            err: b"",
+        },
+    ];
+    rows_hold(&rt, rt.alloc(), rows.as_slice())
+}
+
+#[test]
+fn causes_are_told(rt: HostRuntime) -> Result<(), Fail> {
+    let rows = [
+        Row {
+            words: &["print"],
+            input: b"  \x01hello\n",
+            status: 1,
+            out: b"",
+            err: b"sandvec: line 1 byte 3: lexical fault\n",
+        },
+        Row {
+            words: &["print"],
+            input: b"hello",
+            status: 1,
+            out: b"",
+            err: b"sandvec: line 1: not a line of the profile\n",
+        },
+        Row {
+            words: &["print"],
+            input: b"define void @f() {\n  ret void\n",
+            status: 1,
+            out: b"",
+            err: b"sandvec: line 3: misplaced\n",
+        },
+        Row {
+            words: &["print"],
+            input: b"define i32 @f() {\n  ret i32 true\n}\n",
+            status: 1,
+            out: b"",
+            err: b"sandvec: line 2: not a line of the profile\n",
+        },
+        Row {
+            words: &["print"],
+            input: b"define void @u() {\n  ret void\n\ndead:\n  %x = add i32 %x, 1\n  br label %dead\n}\ndefine void @u() {\n  ret void\n}\n",
+            status: 1,
+            out: b"",
+            err: b"sandvec: line 8: @u defined twice\n",
+        },
+        Row {
+            words: &["print"],
+            input: b"define i32 @f(i32 %x) {\n  %x = add i32 1, 2\n  ret i32 %x\n}\n",
+            status: 1,
+            out: b"",
+            err: b"sandvec: line 2: %x defined twice\n",
+        },
+        Row {
+            words: &["print"],
+            input: b"define i32 @f() {\n  ret i32 %z\n}\n",
+            status: 1,
+            out: b"",
+            err: b"sandvec: line 2: %z unknown\n",
+        },
+        Row {
+            words: &["print"],
+            input: b"define void @u() {\n  ret void\n\ndead:\n  %x = add i32 %x, 1\nbr label %gone\n}\n",
+            status: 1,
+            out: b"",
+            err: b"sandvec: line 6: %gone unknown\n",
+        },
+        Row {
+            words: &["print"],
+            input: b"define i32 @f() {\ne:\n  ret i32 %e\n}\n",
+            status: 1,
+            out: b"",
+            err: b"sandvec: line 3: %e unknown\n",
+        },
+        Row {
+            words: &["print"],
+            input: b"define i32 @f() {\n  ret i64 1\n}\n",
+            status: 1,
+            out: b"",
+            err: b"sandvec: line 2: ill typed\n",
+        },
+        Row {
+            words: &["print"],
+            input: b"define i32 @n(i1 %c) {\nentry:\nbr i1 %c, label %t, label %e\nt:\n%x = add i32 1, 2\nbr label %e\ne:\nret i32 %x\n}\n",
+            status: 1,
+            out: b"",
+            err: b"sandvec: line 8: %x not available along blocks 0 2\n",
+        },
+        Row {
+            words: &["print"],
+            input: b"target datalayout = \"E-p:64:64\"\n",
+            status: 1,
+            out: b"",
+            err: b"sandvec: line 1: big-endian layout\n",
+        },
+    ];
+    rows_hold(&rt, rt.alloc(), rows.as_slice())
+}
+
+#[test]
+fn words_are_told(rt: HostRuntime) -> Result<(), Fail> {
+    let rows = [
+        Row {
+            words: &[],
+            input: PLAIN,
+            status: 2,
+            out: b"",
+            err: b"sandvec: words: 0\n",
+        },
+        Row {
+            words: &["run"],
+            input: PLAIN,
+            status: 2,
+            out: b"",
+            err: b"sandvec: words: 1\n",
+        },
+        Row {
             words: &["opt", "-j"],
             input: PLAIN,
             status: 2,
@@ -189,6 +274,90 @@ fn rows_are_answered(rt: HostRuntime) -> Result<(), Fail> {
             status: 2,
             out: b"",
             err: b"sandvec: words: 1\n",
+        },
+        Row {
+            words: &["run", "--steps", "1", "z()"],
+            input: DEAD,
+            status: 2,
+            out: b"",
+            err: b"sandvec: words: 3\n",
+        },
+        Row {
+            words: &["run", "--steps", "1", "u()", "@g=00"],
+            input: DEAD,
+            status: 2,
+            out: b"",
+            err: b"sandvec: words: 4\n",
+        },
+    ];
+    rows_hold(&rt, rt.alloc(), rows.as_slice())
+}
+
+#[test]
+fn runs_end(rt: HostRuntime) -> Result<(), Fail> {
+    let rows = [
+        Row {
+            words: &["run", "--steps", "0", "l(mem:00000000,2)"],
+            input: LOOP,
+            status: 0,
+            out: b"cut\nobject 0: 00000000\n",
+            err: b"",
+        },
+        Row {
+            words: &["run", "--steps", "1", "l(mem:00000000,2)"],
+            input: LOOP,
+            status: 0,
+            out: b"cut\nobject 0: 00000000\n",
+            err: b"",
+        },
+        Row {
+            words: &["run", "--steps", "2", "l(mem:00000000,2)"],
+            input: LOOP,
+            status: 0,
+            out: b"cut\nobject 0: 05000600\n",
+            err: b"",
+        },
+        Row {
+            words: &["run", "--steps", "3", "l(mem:00000000,2)"],
+            input: LOOP,
+            status: 0,
+            out: b"returned void\nobject 0: 05000600\n",
+            err: b"",
+        },
+        Row {
+            words: &["run", "--steps", "1", "d(<6,8>,<3,0>)"],
+            input: b"define <2 x i32> @d(<2 x i32> %x, <2 x i32> %y) {\n  %z = udiv <2 x i32> %x, %y\n  ret <2 x i32> %z\n}\n",
+            status: 0,
+            out: b"undefined\n",
+            err: b"",
+        },
+        Row {
+            words: &["run", "--steps", "1", "d(<6,8>,<3,2>)"],
+            input: b"define <2 x i32> @d(<2 x i32> %x, <2 x i32> %y) {\n  %z = udiv <2 x i32> %x, %y\n  ret <2 x i32> %z\n}\n",
+            status: 0,
+            out: b"returned <2, 4>\n",
+            err: b"",
+        },
+        Row {
+            words: &["run", "--steps", "1", "e(poison,-1)"],
+            input: b"define i32 @e(i32 %x, i32 %y) {\n  %z = sdiv i32 %x, %y\n  ret i32 %z\n}\n",
+            status: 0,
+            out: b"undefined\n",
+            err: b"",
+        },
+        Row {
+            words: &["run", "--steps", "1", "e(-2147483648,-1)"],
+            input: b"define i32 @e(i32 %x, i32 %y) {\n  %z = sdiv i32 %x, %y\n  ret i32 %z\n}\n",
+            status: 0,
+            out: b"undefined\n",
+            err: b"",
+        },
+        Row {
+            words: &["run", "--steps", "1", "e(poison,2)"],
+            input: b"define i32 @e(i32 %x, i32 %y) {\n  %z = sdiv i32 %x, %y\n  ret i32 %z\n}\n",
+            status: 0,
+            out: b"returned poison\n",
+            err: b"",
         },
     ];
     rows_hold(&rt, rt.alloc(), rows.as_slice())
@@ -243,6 +412,49 @@ fn one_byte_past_the_limit_is_refused(rt: HostRuntime) -> Result<(), Fail> {
         assert_eq!(rt;
             sandvec_alone(rt.alloc(), words.as_slice(), &mut input, &mut out, &mut err),
             status
+        );
+        assert_eq!(rt; err.bytes(), wanted);
+        assert_eq!(rt; out.bytes(), b"".as_slice());
+    }
+    Ok(())
+}
+
+/// A function of `blocks` blocks with `adds` additions in the first, of a name that ends in a number.
+fn large(alloc: Global, number: u8, adds: usize, blocks: usize) -> Result<Vec<u8>, Fail> {
+    let mut text = Vec::new(alloc);
+    text.extend_from_slice(b"define void @f")?;
+    text.push(b'0' + number % 10)?;
+    text.extend_from_slice(b"() {\n")?;
+    let mut number: u64 = 1;
+    for _ in 0..adds {
+        text.extend_from_slice(format!(in alloc; "%{number} = add i32 0, 0\n")?.as_bytes())?;
+        number += 1;
+    }
+    for _ in 0..blocks {
+        text.extend_from_slice(b"ret void\n")?;
+    }
+    text.extend_from_slice(b"}\n")?;
+    Ok(text)
+}
+
+#[test]
+fn limits_are_told(rt: HostRuntime) -> Result<(), Fail> {
+    let words = as_words(rt.alloc(), &["print"])?;
+    let mut two = large(rt.alloc(), 0, 50_000, 1)?;
+    two.extend_from_slice(large(rt.alloc(), 1, 50_000, 1)?.as_slice())?;
+    let many = large(rt.alloc(), 0, 65_536, 1)?;
+    let blocks = large(rt.alloc(), 0, 0, 4_097)?;
+    for (bytes, wanted) in [
+        (two, b"sandvec: limit: instructions\n".as_slice()),
+        (many, b"sandvec: limit: values\n".as_slice()),
+        (blocks, b"sandvec: limit: blocks\n".as_slice()),
+    ] {
+        let mut input = SteadySource::new(bytes);
+        let mut out = SteadySink::new(rt.alloc(), 16)?;
+        let mut err = SteadySink::new(rt.alloc(), 64)?;
+        assert_eq!(rt;
+            sandvec_alone(rt.alloc(), words.as_slice(), &mut input, &mut out, &mut err),
+            5
         );
         assert_eq!(rt; err.bytes(), wanted);
         assert_eq!(rt; out.bytes(), b"".as_slice());

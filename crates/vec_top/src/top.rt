@@ -4,70 +4,32 @@
 //! is written.
 
 ghost use Rattle.std.specs.Prelude.{◌≡◌, ◌+◌, ◌^◌, ◌<◌, ◌⊎◌, Option, length, map, string_bytes};
+ghost use Rattle.vec_top.specs.Making as making;
 ghost use Rattle.vec_top.specs.Replies as replies;
 ghost use Rattle.vec_top.specs.declared.fault.Fault.{Fault};
 
-use crate::command::{Command, command_of};
+use crate::accept::accepted;
 use crate::fault::{Fault, line_of};
-use crate::first_forms::{TextRefusal, module_of};
-use ir_print::print;
-use ir_types::Module;
-use rf_pack::pair_refines;
+use crate::results::text_of;
 use std::alloc::Global;
+use vec_words::{Command, WordsRefusal, command};
 use vx_io::{ReadRefusal, Sink, Source, WriteFault, read_all, write_all};
-use vx_serial::pair;
 
 /// The most bytes of an input.
 const BYTE_LIMIT: u64 = 16_777_216;
 
-/// The text of a module that was read, as a command makes it.
-fn text_of(alloc: Global, command: Command, read: &Module) -> Result<Vec<u8>, Fault>
-    ensures { replies.TextOf command read.now result }
-{
-    match command {
-        Command::Print => print(alloc, read).map_err(|_| Fault::NoMemory),
-        Command::Opt => optimized(alloc, read),
-    }
-}
-
-fn optimized(alloc: Global, read: &Module) -> Result<Vec<u8>, Fault>
-    ensures { replies.TextOf Command.Opt read.now result }
-{
-    pair_refines();
-    match pair(alloc, read) {
-        Ok(new) => match print(alloc, &new) {
-            Ok(text) => Ok(text),
-            Err(_) => Err(Fault::NoMemory),
-        },
-        Err(_) => Err(Fault::NoMemory),
-    }
-}
-
 /// The text to write for some bytes.
-fn text_for(alloc: Global, command: Command, bytes: &[u8]) -> Result<Vec<u8>, Fault>
+fn text_for(alloc: Global, command: &Command, bytes: &[u8]) -> Result<Vec<u8>, Fault>
     requires { length bytes.now + 1 < 2 ^ 32 }
-    ensures { replies.TextFor command bytes.now result }
+    ensures { making.TextFor command.now bytes.now result }
 {
-    match module_of(alloc, bytes) {
-        Err(TextRefusal::CannotStand { line }) => Err(Fault::Line(line)),
-        Err(TextRefusal::OutOfMemory) => Err(Fault::NoMemory),
-        Ok(module) => text_of(alloc, command, &module),
-    }
-}
-
-/// The text to write, from the words and the input.
-fn make<S: Source>(alloc: Global, words: &[String], input: &mut S) -> Result<Vec<u8>, Fault>
-    ensures { replies.Makes (map string_bytes words.now) (S.left input.old) (S.left input.new) (S.faults input.old) (S.faults input.new) result }
-{
-    match command_of(words) {
-        Err(place) => Err(Fault::Word(place)),
-        Ok(command) => make_for(alloc, command, input),
-    }
+    let module = accepted(alloc, bytes)?;
+    text_of(alloc, command, &module)
 }
 
 /// The text to write, from the input.
-fn make_for<S: Source>(alloc: Global, command: Command, input: &mut S) -> Result<Vec<u8>, Fault>
-    ensures { replies.MakesFor command (S.left input.old) (S.left input.new) (S.faults input.old) (S.faults input.new) result }
+fn make_for<S: Source>(alloc: Global, command: &Command, input: &mut S) -> Result<Vec<u8>, Fault>
+    ensures { making.MakesFor command.now (S.left input.old) (S.left input.new) (S.faults input.old) (S.faults input.new) result }
 {
     match read_all(alloc, input, BYTE_LIMIT) {
         Ok(bytes) => text_for(alloc, command, bytes.as_slice()),
@@ -77,12 +39,32 @@ fn make_for<S: Source>(alloc: Global, command: Command, input: &mut S) -> Result
     }
 }
 
-/// Writes the line that tells a fault of a place; where there is no memory for it, want of memory is told in its place.
-fn tell_place<E: Sink>(alloc: Global, fault: Fault, err: &mut E) -> Fault
+/// The fault of words that do not hold.
+fn fault_for(refusal: WordsRefusal) -> Fault
+    ensures { result ≡ making.fault_for refusal }
+{
+    match refusal {
+        WordsRefusal::Word { place } => Fault::Word(place),
+        WordsRefusal::OutOfMemory => Fault::NoMemory,
+    }
+}
+
+/// The text to write, from the words and the input.
+fn make<S: Source>(alloc: Global, words: &[String], input: &mut S) -> Result<Vec<u8>, Fault>
+    ensures { making.Makes (map string_bytes words.now) (S.left input.old) (S.left input.new) (S.faults input.old) (S.faults input.new) result }
+{
+    match command(alloc, words) {
+        Ok(command) => make_for(alloc, &command, input),
+        Err(refusal) => Err(fault_for(refusal)),
+    }
+}
+
+/// Writes the line that tells a fault, where it has to be made; where there is no memory for it, want of memory is told instead.
+fn tell_made<E: Sink>(alloc: Global, fault: Fault, err: &mut E) -> Fault
     ensures told { replies.Tells (E.taken err.old) (E.taken err.new) (E.faults err.old) (E.faults err.new) (replies.told result) }
     ensures which { (result ≡ fault) ⊎ (result ≡ Fault.NoMemory) }
 {
-    match line_of(alloc, fault) {
+    match line_of(alloc, &fault) {
         Ok(line) => {
             let _ = write_all(err, line.as_slice());
             fault
@@ -100,8 +82,8 @@ fn tell<E: Sink>(alloc: Global, fault: Fault, err: &mut E) -> Fault
     ensures which { replies.IsTold fault result }
 {
     match fault {
-        Fault::Line(_) => tell_place(alloc, fault, err),
-        Fault::Word(_) => tell_place(alloc, fault, err),
+        Fault::Refused(_) => tell_made(alloc, fault, err),
+        Fault::Word(_) => tell_made(alloc, fault, err),
         Fault::ReadFault => {
             tell_fixed(b"sandvec: read fault\n", err);
             Fault::ReadFault
@@ -163,9 +145,10 @@ fn reply<S: Source, O: Sink, E: Sink>(
 
 /// The program: words, standard input, standard output, standard error, and the exit status.
 ///
-/// The commands are `print` and `opt`. Status 0: the input is a module of the first forms, and `out` took its text, or that of the
-/// module that `opt` makes of it, which refines it. 1: it is none. 2: the words are neither command alone. 3: a read failed. 4: a
-/// write failed. 5: the input has more than 16,777,216 bytes. 6: want of memory. It always returns.
+/// The commands are `print`, `opt` and `run --steps N CALL GLOBAL..`. Status 0: the input is a module that is accepted, and `out` took
+/// its text, or that of the module that `opt` makes of it, which refines it, or the outcome of the run. 1: it is no such module, and
+/// the first cause is told. 2: the words do not hold, or those of `run` do not fit the module. 3: a read failed. 4: a write failed.
+/// 5: a limit is passed, of 16,777,216 bytes or of the module's. 6: want of memory. It always returns.
 pub fn sandvec_alone<S: Source, O: Sink, E: Sink>(
     alloc: Global,
     words: &[String],

@@ -1,0 +1,119 @@
+-- One text is one module or has one first cause against it; and the steps by which a text is accepted.
+use Rattle.std.proofs.Common.{◌≡◌, ℕ, List, Some, None, Option, Result, Ok, Err, ◌⊎◌, inl, inr, refl, sym, ◌∙◌, ap, subst, true, false}
+use Rattle.std.specs.Prelude.{unwrap_or}
+use Rattle.ir_types.specs.declared.id.Id.{Id}
+use Rattle.ir_types.specs.declared.opd.Opd.{Opd}
+use Rattle.ir_types.specs.declared.opd.Opd.TheVariants.{Val, Lit, Sym}
+use Rattle.ir_types.specs.declared.inst.Inst.{Inst}
+use Rattle.ir_types.specs.declared.func.Block.{Block}
+use Rattle.ir_types.specs.declared.func.Func.{Func}
+use Rattle.ir_types.specs.declared.module.Item.{Item}
+use Rattle.ir_types.specs.declared.module.Item.TheVariants.{Kept, Opaque, Func as FuncItem}
+use Rattle.ir_types.specs.declared.module.Module.{Module}
+use Rattle.ir_types.specs.Available.{IsAvailable, IsFirstMiss, InstMisses, BlockMisses, FuncMisses, ItemMisses, OpdMisses, IsAvailableOpd, IsAvailableInst, IsAvailableBlock, IsAvailableFunc, IsAvailableItem, First, Each, before_use, insts_at}
+use Rattle.ir_line.specs.declared.draft.Draft.{Draft}
+use Rattle.ir_read.specs.Draft.{draft_of}
+use Rattle.ir_read.specs.declared.refusal.ReadRefusal.{ReadRefusal}
+use Rattle.ir_avail.specs.declared.refusal.AvailRefusal.{AvailRefusal}
+use Rattle.ir_avail.specs.declared.refusal.AvailRefusal.TheVariants.{NotAvailable as Miss, OutOfMemory as AvailNoMemory}
+use Rattle.ir_avail.specs.Verdict.{BlamesFirst}
+use Rattle.ir_types_check.specs.declared.refusal.ResolveRefusal.{ResolveRefusal}
+use Rattle.ir_types_check.specs.declared.resolved.Resolved.{Resolved}
+use Rattle.ir_types_check.specs.Resolved.{resolved_of}
+use Rattle.vec_top.specs.declared.cause.Cause.{Cause}
+use Rattle.vec_top.specs.declared.cause.Cause.TheVariants.{Lex, NotALine, Misplaced, Passes, TwiceDefined, Unknown, IllTyped, NotAvailable, BigEndian}
+use Rattle.vec_top.specs.declared.fault.Fault.{Fault}
+use Rattle.vec_top.specs.declared.fault.Fault.TheVariants.{Refused, Word, ReadFault, WriteFault, TooLong, NoMemory}
+use Rattle.vec_top.specs.Accepts.{Resolves, Accepts, IsUnresolved, IsMissed, IsCause}
+use Rattle.vec_top.specs.Making.{EndsBy, Blames, Orders, AcceptsTo}
+
+-- the first use that is not available is not available
+
+clash : (b : _) → b ≡ true → b ≡ false → ⊥
+clash b h n = let e : true ≡ false = sym h ∙ n in cc
+
+first_fails : {X : Type 0} (Fine Fails : ℕ → X → Type 0) (xs : List X) → ((k : ℕ) (x : X) → Fails k x → Fine k x → ⊥) → First Fine Fails xs → Each Fine xs → ⊥
+first_fails Fine Fails xs never first each = never first.0 first.1 first.4 (each first.0 first.1 first.2)
+
+module _ (user : Id) (slot : ℕ) (walk : List ℕ) where
+  opd_fails : (f : Func) (b at : ℕ) (i : Inst) (k : ℕ) (o : Opd) → (k ≡ slot) × OpdMisses walk f b at i k o → IsAvailableOpd f b at i k o → ⊥
+  opd_fails f b at i k (Val id) m fine = clash _ (fine m.1.0 m.1.1 walk m.1.2.0.0 m.1.2.0.1) m.1.2.0.2
+  opd_fails f b at i k (Lit l) m fine = absurd m.1
+  opd_fails f b at i k (Sym g) m fine = absurd m.1
+
+  inst_fails : (f : Func) (b at : ℕ) (i : Inst) → InstMisses user slot walk f b at i → IsAvailableInst f b at i → ⊥
+  inst_fails f b at i m fine = first_fails _ _ i.opds (opd_fails f b at i) m.1 fine
+
+  block_fails : (f : Func) (n : ℕ) (b : Block) → BlockMisses user slot walk f n b → IsAvailableBlock f n b → ⊥
+  block_fails f n b m fine = first_fails _ _ b.insts (λ at i. inst_fails f n at i) m fine
+
+  func_fails : (f : Func) → FuncMisses user slot walk f → IsAvailableFunc f → ⊥
+  func_fails f m fine = first_fails _ _ f.blocks (λ n b. block_fails f n b) m fine
+
+  item_fails : (k : ℕ) (x : Item) → ItemMisses user slot walk k x → IsAvailableItem k x → ⊥
+  item_fails k (FuncItem f) m fine = func_fails f m fine
+  item_fails k (Kept t) m fine = absurd m
+  item_fails k (Opaque t) m fine = absurd m
+
+  module_fails : (m : Module) → IsFirstMiss user slot walk m → IsAvailable m → ⊥
+  module_fails m miss fine = first_fails _ _ m.items item_fails miss fine
+
+-- what a text resolves to is one
+
+same_draft : (bytes : List ℕ) (d e : Draft) → draft_of bytes ≡ Ok d → draft_of bytes ≡ Ok e → d ≡ e
+same_draft bytes d e p q = let x : Ok d ≡ Ok e = sym p ∙ q in cc
+
+pub resolves_once : (bytes : List ℕ) (r s : Resolved) → Resolves bytes r → Resolves bytes s → r ≡ s
+resolves_once bytes r s p q =
+    let same : p.draft ≡ q.draft = same_draft bytes p.draft q.draft p.drafted q.drafted in
+    let x : Ok r ≡ Ok s = sym p.resolved ∙ ap resolved_of same ∙ q.resolved in cc
+
+unread : (bytes : List ℕ) (r : Resolved) (refusal : ReadRefusal) → draft_of bytes ≡ Err refusal → Resolves bytes r → ⊥
+unread bytes r refusal p q = let x : Err refusal ≡ Ok q.draft = sym p ∙ q.drafted in cc
+
+unresolved : (bytes : List ℕ) (r : Resolved) (refusal : ResolveRefusal) → IsUnresolved bytes refusal → Resolves bytes r → ⊥
+unresolved bytes r refusal p q =
+    let same : p.draft ≡ q.draft = same_draft bytes p.draft q.draft p.drafted q.drafted in
+    let x : Err refusal ≡ Ok r = sym p.refused ∙ ap resolved_of same ∙ q.resolved in cc
+
+-- a text against which there is a cause is no module that is accepted
+pub refused_for_good : (bytes : List ℕ) (cause : Cause) → IsCause bytes cause → (m : Module) → Accepts bytes m → ⊥
+refused_for_good bytes (Lex line byte) c m a = unread bytes _ _ c a.resolves
+refused_for_good bytes (NotALine line) c m a = unread bytes _ _ c a.resolves
+refused_for_good bytes (Misplaced line) c m a = unread bytes _ _ c a.resolves
+refused_for_good bytes (Passes limit) c m a = unread bytes _ _ c a.resolves
+refused_for_good bytes (TwiceDefined line name) c m a = unresolved bytes _ _ c a.resolves
+refused_for_good bytes (Unknown line name) c m a = unresolved bytes _ _ c a.resolves
+refused_for_good bytes (IllTyped line) c m a = unresolved bytes _ _ c a.resolves
+refused_for_good bytes (NotAvailable line name walk) c m a =
+    let same : c.0.«module» ≡ m = ap (λ (r : Resolved). r.«module») (resolves_once bytes _ _ c.1 a.resolves) in
+    module_fails c.2.user c.2.slot walk c.0.«module» c.2.first (subst (λ n. IsAvailable n) (sym same) a.available)
+refused_for_good bytes (BigEndian line) c m a =
+    let same : c.0.«module» ≡ m = ap (λ (r : Resolved). r.«module») (resolves_once bytes _ _ c.1 a.resolves) in
+    let x : Some line ≡ None = sym c.3 ∙ ap (λ (n : Module). n.big_endian_line) same ∙ a.little_endian in cc
+
+-- the steps of accepting
+
+pub blamed : (bytes : List ℕ) (r : Resolved) (refusal : AvailRefusal) (fault : Fault) → Resolves bytes r → BlamesFirst r.«module» refusal → Blames r refusal fault → EndsBy bytes fault
+blamed bytes r (Miss user slot walk) fault resolves first (inl e) =
+    subst (λ f. EndsBy bytes f) (sym e) (r, resolves, record { user = user; slot = slot; first = first; at = refl; shown = refl })
+blamed bytes r (Miss user slot walk) fault resolves first (inr e) = subst (λ f. EndsBy bytes f) (sym e) tt
+blamed bytes r AvailNoMemory fault resolves first e = subst (λ f. EndsBy bytes f) (sym e) tt
+
+pub ordered : (bytes : List ℕ) (r : Resolved) (answer : Result Module Fault) → Resolves bytes r → IsAvailable r.«module» → Orders r.«module» answer → AcceptsTo bytes answer
+ordered bytes r (Ok m) resolves fine o =
+    subst (λ n. Accepts bytes n) (sym o.0) (record { lines = r.lines; resolves = resolves; available = fine; little_endian = o.1 })
+ordered bytes r (Err (Refused (BigEndian line))) resolves fine o = (r, resolves, fine, o)
+ordered bytes r (Err (Refused (Lex line byte))) resolves fine o = absurd o
+ordered bytes r (Err (Refused (NotALine line))) resolves fine o = absurd o
+ordered bytes r (Err (Refused (Misplaced line))) resolves fine o = absurd o
+ordered bytes r (Err (Refused (Passes limit))) resolves fine o = absurd o
+ordered bytes r (Err (Refused (TwiceDefined line name))) resolves fine o = absurd o
+ordered bytes r (Err (Refused (Unknown line name))) resolves fine o = absurd o
+ordered bytes r (Err (Refused (IllTyped line))) resolves fine o = absurd o
+ordered bytes r (Err (Refused (NotAvailable line name walk))) resolves fine o = absurd o
+ordered bytes r (Err (Word place)) resolves fine o = absurd o
+ordered bytes r (Err ReadFault) resolves fine o = absurd o
+ordered bytes r (Err WriteFault) resolves fine o = absurd o
+ordered bytes r (Err TooLong) resolves fine o = absurd o
+ordered bytes r (Err NoMemory) resolves fine o = absurd o
