@@ -26,8 +26,14 @@ use Rattle.ir_line.specs.Keeping.{is_some}
 use Rattle.ir_line.specs.Headers.{last_to, span, depth_after, goes_on, attrs_len, stands, is_banned, ty_len, name_of, behind_name, param, attributed, param_at, params_within, params_at, is_callee, name_from, ret_of, head_of, inner, header}
 use Rattle.ir_line.proofs.Parts.{ty_taken}
 use Rattle.ir_line.proofs.Steps.{nothing, some_is, bind_then, cond_then, one_says, bytes_same}
+use Rattle.ir_line.specs.declared.line.Line.{Line}
+use Rattle.ir_line.specs.declared.line.Line.TheVariants as line
+use Rattle.ir_line.specs.Outside.{Spells, NoWord, KeptLine, Defined}
+use Rattle.ir_line.proofs.OutsideLines.{outside_spelled}
+use Rattle.ir_read.specs.Forms.{form_in, form_by}
 use Rattle.rf_text.specs.KeptParts.{IsKeptPart, IsBefore, are_passed, are_attributes}
 use Rattle.rf_text.specs.Headed.{is_local_name, is_returned, IsParam, is_written, IsHead}
+use Rattle.rf_text.proofs.Kept.{Formed, formed}
 use Rattle.rf_text.proofs.HeadWords.{span_stands}
 use Rattle.rf_text.proofs.HeadsRead.{words_append, callee_front, passed_front, ret_is}
 use Rattle.rf_text.proofs.HeadsTyped.{spelled_value, ret_quiet, ret_size, ret_returned, Ends, ret_ends}
@@ -400,3 +406,20 @@ header_is_head line h sound e =
     let all : TokenRun line (cut line) = record { front = []; back = []; whole = sym (append-nil (cut line)); sound = sound; ascii = ascii } in
     head_found line (inner (cut line)) h (run_take (length (cut line) - 2) (drop 1 (cut line)) (run_drop 1 (cut line) all)) e2)
     (λ _ none. nothing none)
+
+-- the head of a line that defines
+abbrev head_in : Line → Option Head
+head_in (line.Define name head) = head
+head_in _ = None
+
+spelled_head : (l : List ℕ) (ts : List Token) (form : Line) (h : Head) → Spells l ts form → head_in form ≡ Some h → header l ts ≡ Some h
+spelled_head l ts _ h (NoWord e) same = nothing same
+spelled_head l ts _ h (KeptLine k) same = nothing same
+spelled_head l ts _ h (Defined d o) same = same
+
+pub head_of_line : (l : List ℕ) (name : Option (List ℕ)) (h : Head) → form_in false l ≡ Some (line.Define name (Some h)) → IsHead h
+unfolding form_by
+head_of_line l name h e =
+    let f : Formed false l (line.Define name (Some h)) = formed false l (line.Define name (Some h)) e in
+    let spelled : Spells l (cut l) (line.Define name (Some h)) = outside_spelled l (cut l) (line.Define name (Some h)) f.read in
+    header_is_head l h f.sound (spelled_head l (cut l) (line.Define name (Some h)) h spelled refl)

@@ -4,6 +4,7 @@ pub mod HeadsAgain
 pub mod HeadsFound
 pub mod HeadsPrinted
 pub mod HeadsRead
+pub mod HeadsShown
 pub mod HeadsTyped
 pub mod HeadsTypes
 pub mod Insts

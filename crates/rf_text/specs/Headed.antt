@@ -1,11 +1,12 @@
 -- The header of a function as it is printed, and what a header is that is read again as the same.
-use Rattle.std.specs.Prelude.{◌≡◌, refl, ℕ, ◌+◌, Bool, true, false, ◌&&◌, ◌||◌, Option, Some, None, List, [], ◌∷◌, ◌++◌, codes, bytes_eq}
-use Rattle.std.specs.List.{All}
+use Rattle.std.specs.Prelude.{◌≡◌, refl, ℕ, ◌+◌, ◌^◌, ◌≤◌, Bool, true, false, ◌&&◌, ◌||◌, Option, Some, None, List, [], ◌∷◌, ◌++◌, codes, bytes_eq, length}
+use Rattle.std.specs.Fmt.{digits}
+use Rattle.std.specs.List.{All, list_all}
 use Rattle.ir_lex.specs.Bytes.{begins_name, is_digit}
 use Rattle.ir_lex.specs.Scan.{cut, texts, fault_of}
 use Rattle.ir_lex.specs.Tokens.{is_name, is_number}
 use Rattle.ir_types.specs.declared.ty.Ty.{Ty}
-use Rattle.ir_types.specs.declared.ty.Ty.TheVariants.{Void}
+use Rattle.ir_types.specs.declared.ty.Ty.TheVariants.{Void, Int, Ptr}
 use Rattle.ir_types.specs.declared.func.Param.{Param}
 use Rattle.ir_types.specs.declared.func.Func.{Func}
 use Rattle.ir_types.specs.Typed.{is_value}
@@ -16,7 +17,7 @@ use Rattle.ir_line.specs.Keeping.{first_symbol, or_later}
 use Rattle.ir_line.specs.Headers.{header}
 use Rattle.ir_read.specs.Forms.{form_in}
 use Rattle.ir_print.specs.declared.names.Local.{Local}
-use Rattle.ir_print.specs.Names.{Names, local_of}
+use Rattle.ir_print.specs.Names.{Names, Named, Value, Label, named_of, names_of, local_of}
 use Rattle.ir_print.specs.Operands.{spaced}
 use Rattle.ir_print.specs.Text.{params_text, head_text, header_text}
 use Rattle.rf_text.specs.KeptParts.{IsKeptPart, IsBefore, IsAttributes}
@@ -57,6 +58,10 @@ pub record IsHead (h : Head) : Type 0 where
 abbrev pub HeadersAreHeads : Type 0
 HeadersAreHeads = (line : List ℕ) (h : Head) → fault_of line ≡ None → header line (cut line) ≡ Some h → IsHead h
 
+-- so is every header of the profile that a line has outside functions
+abbrev pub HeadsOfLines : Type 0
+HeadsOfLines = (l : List ℕ) (name : Option (List ℕ)) (h : Head) → form_in false l ≡ Some (Define name (Some h)) → IsHead h
+
 -- whether a value is shown, and by the name of a local
 abbrev pub is_shown : Option Local → Bool
 is_shown None = false
@@ -66,6 +71,16 @@ is_shown (Some l) = is_local_name l.text
 pub record IsHeaded (ns : Names) (f : Func) : Type 0 where
   pub parts : IsHeader f.before f.ret f.name f.params f.after
   pub shown : All (λ p. is_shown (local_of p.id ns.locals) ≡ true) f.params
+
+-- whether the written name of a value, if it has one, is the name of a local
+abbrev pub is_named : Named → Bool
+is_named (Value id ty name) = is_written name
+is_named (Label name) = true
+
+-- where written names are names of locals, every parameter of a function is shown by the name of a local
+abbrev pub ParamsAreShown : Type 0
+ParamsAreShown =
+    (f : Func) → list_all is_named (named_of f) ≡ true → length (named_of f) ≤ 2 ^ 64 → All (λ p. is_shown (local_of p.id (names_of f).locals) ≡ true) f.params
 
 -- the header line
 abbrev pub header_line : Names → Func → List ℕ
@@ -114,3 +129,20 @@ zero = refl
 seven : is_local_name (codes "07") ≡ false
 unfolding begins_name is_digit
 seven = refl
+
+-- a function with a parameter that has a name and one that is numbered
+abbrev example : Func
+example = record {
+  before = codes "dso_local";
+  ret = Int 32;
+  name = codes "f";
+  params =
+      record { id = record { region = 0; k = 0 }; name = Some (codes "p"); ty = Ptr; attrs = codes "noalias"; noalias = true }
+      ∷ record { id = record { region = 0; k = 1 }; name = None; ty = Int 64; attrs = []; noalias = false } ∷ [];
+  after = codes "#0";
+  blocks = [];
+}
+
+example_line : header_line (names_of example) example ≡ codes "define dso_local i32 @f(ptr noalias %p, i64 %0) #0 {"
+unfolding digits
+example_line = refl

@@ -5,8 +5,10 @@
 -- a line of its own, whatever stood or will stand around it.
 use Rattle.std.specs.Prelude.{◌≡◌, refl, ℕ, Bool, true, false, not, ◌&&◌, None, List, [], ◌∷◌, codes, bytes_eq, nat_eq}
 use Rattle.std.specs.List.{list_all}
+use Rattle.ir_lex.specs.Bytes.{begins_name, is_word_byte, is_digit, is_sigil, is_mark, is_blank, is_control}
 use Rattle.ir_lex.specs.Ends.{ends_outside}
-use Rattle.ir_lex.specs.Scan.{cut, texts, fault_of}
+use Rattle.ir_lex.specs.Scan.{string_len, more_len, cut, texts, fault_of}
+use Rattle.ir_lex.specs.Words.{word}
 use Rattle.ir_line.specs.Values.{symbol_of}
 use Rattle.ir_line.specs.Words.{Words, is_ascii}
 use Rattle.ir_line.specs.Headers.{span, depth_after, goes_on, stands, is_banned, is_callee}
@@ -60,3 +62,13 @@ group = refl
 
 star : are_attributes 0 (codes "*" ∷ []) ≡ false
 star = refl
+
+-- attributes with a string in them are such a part
+section : IsKeptPart (codes "section \"a;b\" align 8")
+unfolding ends_outside cut texts word string_len more_len begins_name is_word_byte is_digit is_sigil is_mark is_blank is_control
+section = record { sound = refl; ends = refl; tight = refl; ascii = refl }
+
+-- spaces at either end are of no part
+around : span (codes " nonnull ") (cut (codes " nonnull ")) ≡ codes "nonnull"
+unfolding cut word more_len begins_name is_word_byte is_digit is_sigil is_mark is_blank
+around = refl

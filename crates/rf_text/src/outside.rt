@@ -1,7 +1,7 @@
 //! Laws of what stands outside functions: the lines of a text, the lines that are kept, the headers of functions.
 
 ghost use Rattle.std.specs.Prelude.{◌≡◌, ℕ, List};
-ghost use Rattle.rf_text.specs.Headed.{HeadersAgain, HeadersAreHeads};
+ghost use Rattle.rf_text.specs.Headed.{HeadersAgain, HeadersAreHeads, HeadsOfLines, ParamsAreShown};
 ghost use Rattle.rf_text.specs.LinesOf.{LinesAgain, FormsAreOfLines, KeptAgain};
 
 /// Lines written one behind the other, each with a line feed behind it, are read as these lines.
@@ -29,4 +29,14 @@ pub fn headers_again()
 /// parts, its types and its names are as the profile has them, whatever stood around them.
 pub fn headers_are_heads()
     ensures { HeadersAreHeads }
+{}
+
+/// Where the written names of a function's values are names of locals, each of its parameters is shown, by its name or its number.
+pub fn params_are_shown()
+    ensures { ParamsAreShown }
+{}
+
+/// The same of the header of every line outside functions.
+pub fn heads_of_lines()
+    ensures { HeadsOfLines }
 {}
