@@ -44,3 +44,6 @@ pub fn run(
         None => Ok(Outcome::Undefined),
     }
 }
+
+#[cfg(test)]
+mod tests;

@@ -1,0 +1,354 @@
+//! Operations on values: arithmetic, comparisons, conversions, choices, lanes of vectors.
+
+use super::{Typed, gives, lits};
+use ir_types::{Op, Ty};
+use std::alloc::Global;
+use std::test::Fail;
+use vx_num::{BinOp, CastOp, Flags, Lane, Pred};
+
+const PLAIN: Flags = Flags {
+    nuw: false,
+    nsw: false,
+    exact: false,
+    disjoint: false,
+};
+
+const NUW: Flags = Flags {
+    nuw: true,
+    nsw: false,
+    exact: false,
+    disjoint: false,
+};
+
+const NSW: Flags = Flags {
+    nuw: false,
+    nsw: true,
+    exact: false,
+    disjoint: false,
+};
+
+const EXACT: Flags = Flags {
+    nuw: false,
+    nsw: false,
+    exact: true,
+    disjoint: false,
+};
+
+const DISJOINT: Flags = Flags {
+    nuw: false,
+    nsw: false,
+    exact: false,
+    disjoint: true,
+};
+
+const POISON: Option<Lane> = Some(None);
+
+const UNDEFINED: Option<Lane> = None;
+
+/// At 8 bits: an operation with flags on two lanes, and the lane that it gives, if it is defined.
+const SUMS: [(BinOp, Flags, Lane, Lane, Option<Lane>); 22] = [
+    (BinOp::Add, PLAIN, Some(255), Some(1), Some(Some(0))),
+    (BinOp::Add, PLAIN, None, Some(1), POISON),
+    (BinOp::Add, NUW, Some(255), Some(1), POISON),
+    (BinOp::Add, NSW, Some(127), Some(1), POISON),
+    (BinOp::Add, NSW, Some(255), Some(1), Some(Some(0))),
+    (BinOp::Sub, PLAIN, Some(0), Some(1), Some(Some(255))),
+    (BinOp::Sub, NUW, Some(0), Some(1), POISON),
+    (BinOp::Sub, NSW, Some(128), Some(1), POISON),
+    (BinOp::Mul, PLAIN, Some(16), Some(16), Some(Some(0))),
+    (BinOp::Mul, NUW, Some(16), Some(16), POISON),
+    (BinOp::Mul, NSW, Some(64), Some(2), POISON),
+    (BinOp::Mul, NSW, Some(255), Some(255), Some(Some(1))),
+    (BinOp::Shl, PLAIN, Some(1), Some(7), Some(Some(128))),
+    (BinOp::Shl, PLAIN, Some(1), Some(8), POISON),
+    (BinOp::Shl, NUW, Some(128), Some(1), POISON),
+    (BinOp::Shl, NSW, Some(64), Some(1), POISON),
+    (BinOp::Shl, NSW, Some(192), Some(1), Some(Some(128))),
+    (BinOp::Lshr, PLAIN, Some(128), Some(7), Some(Some(1))),
+    (BinOp::Lshr, PLAIN, Some(128), Some(8), POISON),
+    (BinOp::Lshr, EXACT, Some(3), Some(1), POISON),
+    (BinOp::Ashr, PLAIN, Some(128), Some(7), Some(Some(255))),
+    (BinOp::Ashr, EXACT, Some(129), Some(1), POISON),
+];
+
+const QUOTIENTS: [(BinOp, Flags, Lane, Lane, Option<Lane>); 22] = [
+    (BinOp::Udiv, PLAIN, Some(7), Some(2), Some(Some(3))),
+    (BinOp::Udiv, EXACT, Some(7), Some(2), POISON),
+    (BinOp::Udiv, PLAIN, Some(7), Some(0), UNDEFINED),
+    (BinOp::Udiv, PLAIN, Some(7), None, UNDEFINED),
+    (BinOp::Udiv, PLAIN, None, Some(2), POISON),
+    (BinOp::Sdiv, PLAIN, Some(249), Some(2), Some(Some(253))),
+    (BinOp::Sdiv, EXACT, Some(249), Some(2), POISON),
+    (BinOp::Sdiv, PLAIN, Some(249), Some(0), UNDEFINED),
+    (BinOp::Sdiv, PLAIN, None, Some(255), UNDEFINED),
+    (BinOp::Sdiv, PLAIN, Some(128), Some(255), UNDEFINED),
+    (BinOp::Sdiv, PLAIN, None, Some(2), POISON),
+    (BinOp::Urem, PLAIN, Some(7), Some(4), Some(Some(3))),
+    (BinOp::Srem, PLAIN, Some(249), Some(4), Some(Some(253))),
+    (BinOp::Srem, PLAIN, Some(7), Some(252), Some(Some(3))),
+    (BinOp::Srem, PLAIN, None, Some(255), UNDEFINED),
+    (BinOp::Srem, PLAIN, Some(128), Some(255), UNDEFINED),
+    (BinOp::And, PLAIN, Some(12), Some(10), Some(Some(8))),
+    (BinOp::Or, PLAIN, Some(12), Some(10), Some(Some(14))),
+    (BinOp::Xor, PLAIN, Some(12), Some(10), Some(Some(6))),
+    (BinOp::Or, DISJOINT, Some(12), Some(10), POISON),
+    (BinOp::Or, DISJOINT, Some(12), Some(3), Some(Some(15))),
+    (BinOp::Urem, PLAIN, Some(7), Some(0), UNDEFINED),
+];
+
+/// Whether a binary operation at 8 bits gives what is expected.
+fn bin_gives(alloc: Global, case: (BinOp, Flags, Lane, Lane, Option<Lane>)) -> Result<bool, Fail> {
+    let (op, flags, a, b, lane) = case;
+    let expected = match lane {
+        Some(lane) => Some(Typed::Int(8, lane)),
+        None => None,
+    };
+    gives(
+        alloc,
+        Op::Bin { op, flags },
+        &[Typed::Int(8, a), Typed::Int(8, b)],
+        Ty::Int(8),
+        expected,
+    )
+}
+
+#[test]
+fn arithmetic(rt: HostRuntime) -> Result<(), Fail> {
+    for i in 0..22 {
+        assert!(rt; bin_gives(rt.alloc(), SUMS[i])?, "sum {i}");
+        assert!(rt; bin_gives(rt.alloc(), QUOTIENTS[i])?, "quotient {i}");
+    }
+    Ok(())
+}
+
+/// Whether a binary operation on two lanes of 32 bits gives what is expected.
+fn rows_give(
+    alloc: Global,
+    op: BinOp,
+    left: &[Lane],
+    right: &[Lane],
+    expected: Option<Typed<'_>>,
+) -> Result<bool, Fail> {
+    let args = [Typed::Row(32, left), Typed::Row(32, right)];
+    gives(
+        alloc,
+        Op::Bin { op, flags: PLAIN },
+        &args,
+        Ty::Row { n: 2, w: 32 },
+        expected,
+    )
+}
+
+#[test]
+fn lane_by_lane(rt: HostRuntime) -> Result<(), Fail> {
+    let alloc = rt.alloc();
+    let six_and_eight = [Some(6), Some(8)];
+    let quotients = [Some(2), Some(4)];
+    assert!(rt;
+        rows_give(
+            alloc,
+            BinOp::Udiv,
+            &six_and_eight,
+            &[Some(3), Some(2)],
+            Some(Typed::Row(32, &quotients))
+        )?
+    );
+    assert!(rt;
+        rows_give(
+            alloc,
+            BinOp::Udiv,
+            &six_and_eight,
+            &[Some(3), Some(0)],
+            None
+        )?
+    );
+    // a poison lane stays in its place
+    let sum = [None, Some(9)];
+    assert!(rt;
+        rows_give(
+            alloc,
+            BinOp::Add,
+            &[None, Some(8)],
+            &[Some(1), Some(1)],
+            Some(Typed::Row(32, &sum))
+        )?
+    );
+    // vectors of other lengths do not fit
+    assert!(rt; rows_give(alloc, BinOp::Add, &six_and_eight, &[Some(1)], None)?);
+    Ok(())
+}
+
+/// What each comparison of 255 and 1 at 8 bits gives.
+const COMPARED: [(Pred, u64); 10] = [
+    (Pred::Eq, 0),
+    (Pred::Ne, 1),
+    (Pred::Ugt, 1),
+    (Pred::Uge, 1),
+    (Pred::Ult, 0),
+    (Pred::Ule, 0),
+    (Pred::Sgt, 0),
+    (Pred::Sge, 0),
+    (Pred::Slt, 1),
+    (Pred::Sle, 1),
+];
+
+/// Whether a comparison of a lane and 1 at 8 bits gives a lane.
+fn cmp_gives(alloc: Global, pred: Pred, a: Lane, expected: Lane) -> Result<bool, Fail> {
+    let args = [Typed::Int(8, a), Typed::Int(8, Some(1))];
+    gives(
+        alloc,
+        Op::Icmp { pred },
+        &args,
+        Ty::Int(1),
+        Some(Typed::Int(1, expected)),
+    )
+}
+
+#[test]
+fn comparisons(rt: HostRuntime) -> Result<(), Fail> {
+    for i in 0..10 {
+        let (pred, truth) = COMPARED[i];
+        assert!(rt;
+            cmp_gives(rt.alloc(), pred, Some(255), Some(truth))?,
+            "comparison {i}"
+        );
+        assert!(rt; cmp_gives(rt.alloc(), pred, None, None)?, "poison {i}");
+    }
+    Ok(())
+}
+
+/// A conversion from a width of a lane to a width, and what it gives.
+const CAST: [(CastOp, bool, u8, Lane, u8, Lane); 7] = [
+    (CastOp::Zext, false, 8, Some(128), 16, Some(128)),
+    (CastOp::Zext, true, 8, Some(128), 16, None),
+    (CastOp::Zext, true, 8, Some(127), 16, Some(127)),
+    (CastOp::Sext, false, 8, Some(128), 16, Some(65408)),
+    (
+        CastOp::Sext,
+        false,
+        1,
+        Some(1),
+        64,
+        Some(18446744073709551615),
+    ),
+    (CastOp::Trunc, false, 16, Some(511), 8, Some(255)),
+    (CastOp::Trunc, false, 16, None, 8, None),
+];
+
+fn cast_gives(alloc: Global, case: (CastOp, bool, u8, Lane, u8, Lane)) -> Result<bool, Fail> {
+    let (op, nneg, from, a, to, expected) = case;
+    gives(
+        alloc,
+        Op::Cast { op, nneg },
+        &[Typed::Int(from, a)],
+        Ty::Int(to),
+        Some(Typed::Int(to, expected)),
+    )
+}
+
+#[test]
+fn conversions(rt: HostRuntime) -> Result<(), Fail> {
+    for i in 0..7 {
+        assert!(rt; cast_gives(rt.alloc(), CAST[i])?, "conversion {i}");
+    }
+    Ok(())
+}
+
+/// Whether a choice by a condition gives what is expected.
+fn select_gives(
+    alloc: Global,
+    condition: Typed<'_>,
+    left: Typed<'_>,
+    right: Typed<'_>,
+    expected: Typed<'_>,
+) -> Result<bool, Fail> {
+    gives(
+        alloc,
+        Op::Select,
+        &[condition, left, right],
+        left.ty(),
+        Some(expected),
+    )
+}
+
+#[test]
+fn choices(rt: HostRuntime) -> Result<(), Fail> {
+    let alloc = rt.alloc();
+    let seven = Typed::Int(8, Some(7));
+    let poison = Typed::Int(8, None);
+    let (yes, no) = (Typed::Int(1, Some(1)), Typed::Int(1, Some(0)));
+    // the arm that is not chosen is ignored
+    assert!(rt; select_gives(alloc, yes, seven, poison, seven)?);
+    assert!(rt; select_gives(alloc, no, poison, seven, seven)?);
+    assert!(rt; select_gives(alloc, Typed::Int(1, None), seven, seven, poison)?);
+    let (here, there) = (Typed::Ptr(Some((0, 4))), Typed::Ptr(None));
+    assert!(rt; select_gives(alloc, yes, here, there, here)?);
+    let (low, high) = ([Some(1), Some(2)], [Some(3), Some(4)]);
+    let mixed = [Some(3), None];
+    let by_lane = Typed::Row(1, &[Some(0), None]);
+    assert!(rt;
+        select_gives(
+            alloc,
+            by_lane,
+            Typed::Row(8, &low),
+            Typed::Row(8, &high),
+            Typed::Row(8, &mixed)
+        )?
+    );
+    let none = [None, None];
+    assert!(rt;
+        select_gives(
+            alloc,
+            Typed::Int(1, None),
+            Typed::Row(8, &low),
+            Typed::Row(8, &low),
+            Typed::Row(8, &none)
+        )?
+    );
+    Ok(())
+}
+
+/// Whether lanes at an index, and lanes with 7 put there, are what is expected.
+fn lanes_at(alloc: Global, index: Lane, taken: Lane, put: &[Lane]) -> Result<bool, Fail> {
+    let lanes = [Some(1), None];
+    let row = Typed::Row(8, &lanes);
+    let at = Typed::Int(64, index);
+    Ok(
+        gives(
+            alloc,
+            Op::Extract,
+            &[row, at],
+            Ty::Int(8),
+            Some(Typed::Int(8, taken)),
+        )? && gives(
+            alloc,
+            Op::Insert,
+            &[row, Typed::Int(8, Some(7)), at],
+            row.ty(),
+            Some(Typed::Row(8, put)),
+        )?,
+    )
+}
+
+#[test]
+fn lanes_of_vectors(rt: HostRuntime) -> Result<(), Fail> {
+    let alloc = rt.alloc();
+    assert!(rt; lanes_at(alloc, Some(0), Some(1), &[Some(7), None])?);
+    assert!(rt; lanes_at(alloc, Some(1), None, &[Some(1), Some(7)])?);
+    assert!(rt; lanes_at(alloc, Some(2), None, &[None, None])?);
+    assert!(rt; lanes_at(alloc, None, None, &[None, None])?);
+    let (left, right) = ([Some(10), Some(11)], [Some(12), Some(13)]);
+    let mask = lits(alloc, &[Some(3), Some(0), None, Some(1)])?;
+    let all = [Some(13), Some(10), None, Some(11)];
+    let args = [Typed::Row(8, &left), Typed::Row(8, &right)];
+    assert!(rt;
+        gives(
+            alloc,
+            Op::Shuffle { mask },
+            &args,
+            Ty::Row { n: 4, w: 8 },
+            Some(Typed::Row(8, &all))
+        )?
+    );
+    Ok(())
+}
