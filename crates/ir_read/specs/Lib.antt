@@ -5,6 +5,7 @@ pub mod Examples
 pub mod Faults
 pub mod Forms
 pub mod Function
+pub mod Items
 pub mod Limits
 pub mod Lines
 pub mod Numbers

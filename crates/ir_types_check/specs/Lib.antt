@@ -4,6 +4,7 @@ pub mod Blocks
 pub mod Examples
 pub mod Links
 pub mod Locals
+pub mod Named
 pub mod Outline
 pub mod Resolved
 pub mod Scope

@@ -25,7 +25,8 @@ use Rattle.ir_print.specs.Instructions.{inst_text, act_text, result_text}
 use Rattle.ir_read.specs.Forms.{form_in}
 use Rattle.rf_text.specs.Shown.{Shown, shown_ty, IsPoisonIfPointer}
 use Rattle.rf_text.specs.Written.{forms_of}
-use Rattle.rf_text.specs.Printed.{joined, Printed}
+use Rattle.rf_text.specs.LinesOf.{joined}
+use Rattle.rf_text.specs.Printed.{Printed}
 use Rattle.rf_text.proofs.Words.{Told, line_read, is_run}
 use Rattle.rf_text.proofs.WordsNames.{Named, local_texts, run_is_plain}
 use Rattle.rf_text.proofs.Parts.{Cut, told_part, told_space, word_cut, equals_texts, space_stops}

@@ -2,6 +2,9 @@
 pub mod Headed
 pub mod KeptParts
 pub mod LinesOf
+pub mod ModuleForms
+pub mod Printable
 pub mod Printed
+pub mod Reads
 pub mod Shown
 pub mod Written

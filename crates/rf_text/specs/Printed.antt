@@ -10,12 +10,8 @@ use Rattle.ir_print.specs.Instructions.{inst_text}
 use Rattle.ir_print.specs.Text.{label_line}
 use Rattle.ir_read.specs.Forms.{form_in}
 use Rattle.rf_text.specs.Shown.{IsLocalName, Shown, Fits}
+use Rattle.rf_text.specs.LinesOf.{joined}
 use Rattle.rf_text.specs.Written.{forms_of}
-
--- lines with a line feed behind each
-abbrev pub joined : List (List ℕ) → List ℕ
-joined [] = []
-joined (l ∷ ls) = l ++ 10 ∷ joined ls
 
 -- the text is lines, of which each is read inside a function as its form; so none has a lexical fault
 pub record Printed (text : List ℕ) (forms : List Line) : Type 0 where
@@ -37,6 +33,3 @@ BracesAreReadAgain = Printed (codes "}\n") (Close ∷ [])
 
 abbrev pub GapsAreReadAgain : Type 0
 GapsAreReadAgain = Printed (codes "\n") (Empty ∷ [])
-
-two_lines : joined (codes "a" ∷ codes "b" ∷ []) ≡ codes "a\nb\n"
-two_lines = refl
