@@ -1,6 +1,7 @@
 -- Why what is printed is read again.
 pub mod Insts
 pub mod InstsAll
+pub mod InstsBodies
 pub mod InstsFlow
 pub mod InstsLabels
 pub mod InstsMemory

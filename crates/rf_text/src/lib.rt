@@ -6,4 +6,4 @@
 
 mod instructions;
 
-pub use instructions::{printed_braces, printed_instructions, printed_labels};
+pub use instructions::{printed_bodies, printed_braces, printed_instructions, printed_labels};
