@@ -136,7 +136,3 @@ value_no_void (Row n w) h = refl
 
 abbrev pub inst : Id → Option (List ℕ) → Ty → Op → List Opd → Inst
 inst id name ty op os = record { id = id; name = name; ty = ty; op = op; opds = os }
-
--- what an instruction of these parts is to meet
-abbrev pub Reads : Names → List (List ℕ) → Inst → Type 0
-Reads ns gs i = Printed (inst_text ns gs i) (forms_of ns gs i)

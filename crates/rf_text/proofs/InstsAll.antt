@@ -11,8 +11,8 @@ use Rattle.ir_print.specs.Names.{Names}
 use Rattle.ir_print.specs.Instructions.{inst_text}
 use Rattle.rf_text.specs.Shown.{Shown, Fits}
 use Rattle.rf_text.specs.Written.{forms_of}
-use Rattle.rf_text.specs.Printed.{Printed}
-use Rattle.rf_text.proofs.Insts.{inst, Reads}
+use Rattle.rf_text.specs.Printed.{Printed, IsReadAgain}
+use Rattle.rf_text.proofs.Insts.{inst}
 use Rattle.rf_text.proofs.InstsFlow.{phi_line, ret_line, jump_line, branch_line, unreachable_line}
 use Rattle.rf_text.proofs.InstsMemory.{load_line, store_line, alloca_line}
 use Rattle.rf_text.proofs.InstsSteps.{step_line}
@@ -20,7 +20,7 @@ use Rattle.rf_text.proofs.InstsSwitch.{switch_line}
 use Rattle.rf_text.proofs.InstsValues.{bin_line, icmp_line, cast_line}
 use Rattle.rf_text.proofs.InstsVectors.{select_line, extract_line, insert_line, shuffle_line}
 
-by_op : (ret : Ty) (ns : Names) (gs : List (List ℕ)) → Shown ns gs → (id : Id) (name : Option (List ℕ)) (ty : Ty) (op : Op) (os : List Opd) → Fits ret ns gs (inst id name ty op os) → Reads ns gs (inst id name ty op os)
+by_op : (ret : Ty) (ns : Names) (gs : List (List ℕ)) → Shown ns gs → (id : Id) (name : Option (List ℕ)) (ty : Ty) (op : Op) (os : List Opd) → Fits ret ns gs (inst id name ty op os) → IsReadAgain ns gs (inst id name ty op os)
 by_op ret ns gs shown id name ty (ops.Bin op flags) os fits = bin_line ns gs shown ret id name ty op flags os fits
 by_op ret ns gs shown id name ty (ops.Icmp pred) os fits = icmp_line ns gs shown ret id name ty pred os fits
 by_op ret ns gs shown id name ty (ops.Cast op nneg) os fits = cast_line ns gs shown ret id name ty op nneg os fits

@@ -20,6 +20,7 @@ use Rattle.ir_print.specs.Names.{Names, local_of, is_void}
 use Rattle.ir_print.specs.Operands.{label_text}
 use Rattle.ir_print.specs.Instructions.{act_text}
 use Rattle.rf_text.specs.Shown.{Shown, Fits, shown_ty, IsPoisonIfPointer}
+use Rattle.rf_text.specs.Printed.{IsReadAgain}
 use Rattle.rf_text.specs.Written.{written, arg_of, shown_block}
 use Rattle.rf_text.proofs.Words.{Told}
 use Rattle.rf_text.proofs.WordsNames.{Named}
@@ -27,7 +28,7 @@ use Rattle.rf_text.proofs.Parts.{told_part, told_last, told_end, told_space, tol
 use Rattle.rf_text.proofs.PartsTypes.{kind_cut}
 use Rattle.rf_text.proofs.PartsBlocks.{Block, block, target_cut, incoming, told_pairs}
 use Rattle.rf_text.proofs.PartsOperands.{Operand, operand, shown_named, typed_cut, told_arg}
-use Rattle.rf_text.proofs.Insts.{value_line, act_line, told_result, told_code, told_act, operands, with_none, with_one, value_no_void, inst, Reads}
+use Rattle.rf_text.proofs.Insts.{value_line, act_line, told_result, told_code, told_act, operands, with_none, with_one, value_no_void, inst}
 
 -- operands of one type
 all_operands : (ns : Names) (gs : List (List ℕ)) → Shown ns gs → (t : Ty) (os : List Opd) → All IsOpd os → All IsPoisonIfPointer os → All (λ u. u ≡ Some t) (map (shown_ty ns gs) os) → All (Operand ns gs t) os
@@ -48,7 +49,7 @@ module _ (ns : Names) (gs : List (List ℕ)) (shown : Shown ns gs) (ret : Ty) (i
   phi_told x bs os named value many some is to =
       told_result x named (told_code _ refl refl (told_space (told_part _ _ (kind_cut _ ty value refl) refl (told_space (told_pairs ns gs ty os bs many some is to)))))
 
-  pub phi_line : (bs : List ℕ) (os : List Opd) → Fits ret ns gs (inst id name ty (ops.Phi bs) os) → Reads ns gs (inst id name ty (ops.Phi bs) os)
+  pub phi_line : (bs : List ℕ) (os : List Opd) → Fits ret ns gs (inst id name ty (ops.Phi bs) os) → IsReadAgain ns gs (inst id name ty (ops.Phi bs) os)
   phi_line bs os fits =
       let typed : (is_value ty ≡ true) × (length bs ≡ length (map (shown_ty ns gs) os)) × (0 < length (map (shown_ty ns gs) os)) × All (λ u. u ≡ Some ty) (map (shown_ty ns gs) os) = fits.typed in
       let value : is_void ty ≡ false = value_no_void ty typed.0 in
@@ -68,15 +69,15 @@ module _ (ns : Names) (gs : List (List ℕ)) (shown : Shown ns gs) (ret : Ty) (i
   unfolding is_word_byte begins_name
   ret_told o value is = told_act _ refl refl (told_space (told_last _ _ (typed_cut ns gs _ ret o value refl is)))
 
-  ret_by : (os : List Opd) → Fits ret ns gs (inst id name ty ops.Ret os) → ty ≡ Void → ((ret ≡ Void) × (map (shown_ty ns gs) os ≡ [])) ⊎ ((is_value ret ≡ true) × (map (shown_ty ns gs) os ≡ Some ret ∷ [])) → Reads ns gs (inst id name ty ops.Ret os)
+  ret_by : (os : List Opd) → Fits ret ns gs (inst id name ty ops.Ret os) → ty ≡ Void → ((ret ≡ Void) × (map (shown_ty ns gs) os ≡ [])) ⊎ ((is_value ret ≡ true) × (map (shown_ty ns gs) os ≡ Some ret ∷ [])) → IsReadAgain ns gs (inst id name ty ops.Ret os)
   ret_by os fits void (inl types) =
-      with_none (λ os. Reads ns gs (inst id name ty ops.Ret os)) (operands ns gs shown [] os fits.operands fits.pointers types.1)
+      with_none (λ os. IsReadAgain ns gs (inst id name ty ops.Ret os)) (operands ns gs shown [] os fits.operands fits.pointers types.1)
       (act_line ns gs (inst id name ty ops.Ret []) forms.Return (rw void refl) (rw void refl) ret_void_told)
   ret_by os fits void (inr types) =
-      with_one (λ os. Reads ns gs (inst id name ty ops.Ret os)) (operands ns gs shown (ret ∷ []) os fits.operands fits.pointers types.1) (λ o is.
+      with_one (λ os. IsReadAgain ns gs (inst id name ty ops.Ret os)) (operands ns gs shown (ret ∷ []) os fits.operands fits.pointers types.1) (λ o is.
       act_line ns gs (inst id name ty ops.Ret (o ∷ [])) (forms.ReturnValue (arg ret (written ns gs o))) (rw void refl) (rw (void, is.type) refl) (ret_told o types.0 is))
 
-  pub ret_line : (os : List Opd) → Fits ret ns gs (inst id name ty ops.Ret os) → Reads ns gs (inst id name ty ops.Ret os)
+  pub ret_line : (os : List Opd) → Fits ret ns gs (inst id name ty ops.Ret os) → IsReadAgain ns gs (inst id name ty ops.Ret os)
   ret_line os fits =
       let typed : (ty ≡ Void) × (((ret ≡ Void) × (map (shown_ty ns gs) os ≡ [])) ⊎ ((is_value ret ≡ true) × (map (shown_ty ns gs) os ≡ Some ret ∷ []))) = fits.typed in
       ret_by os fits typed.0 typed.1
@@ -85,12 +86,12 @@ module _ (ns : Names) (gs : List (List ℕ)) (shown : Shown ns gs) (ret : Ty) (i
   unfolding is_word_byte begins_name
   jump_told b to = told_act _ refl refl (told_space (told_last _ _ (target_cut ns b to)))
 
-  pub jump_line : (b : ℕ) (os : List Opd) → Fits ret ns gs (inst id name ty (ops.Br b) os) → Reads ns gs (inst id name ty (ops.Br b) os)
+  pub jump_line : (b : ℕ) (os : List Opd) → Fits ret ns gs (inst id name ty (ops.Br b) os) → IsReadAgain ns gs (inst id name ty (ops.Br b) os)
   jump_line b os fits =
       let typed : (ty ≡ Void) × (map (shown_ty ns gs) os ≡ []) = fits.typed in
       let void : ty ≡ Void = typed.0 in
       let to : Block ns b = block ns gs b shown (All-head (λ b. b < length ns.labels) b [] fits.blocks) in
-      with_none (λ os. Reads ns gs (inst id name ty (ops.Br b) os)) (operands ns gs shown [] os fits.operands fits.pointers typed.1)
+      with_none (λ os. IsReadAgain ns gs (inst id name ty (ops.Br b) os)) (operands ns gs shown [] os fits.operands fits.pointers typed.1)
       (act_line ns gs (inst id name ty (ops.Br b) []) (forms.Jump (shown_block ns b)) (rw void refl) (rw void refl) (jump_told b to))
 
   branch_told : (b c : ℕ) (o : Opd) → Operand ns gs (Int 1) o → Block ns b → Block ns c →
@@ -99,23 +100,23 @@ module _ (ns : Names) (gs : List (List ℕ)) (shown : Shown ns gs) (ret : Ty) (i
   branch_told b c o is first second =
       told_act _ refl refl (told_space (told_arg ns gs _ (Int 1) o refl refl is refl (told_part _ _ (led_cut (target_cut ns b first)) refl (told_last _ _ (led_cut (target_cut ns c second))))))
 
-  pub branch_line : (b c : ℕ) (os : List Opd) → Fits ret ns gs (inst id name ty (ops.CondBr b c) os) → Reads ns gs (inst id name ty (ops.CondBr b c) os)
+  pub branch_line : (b c : ℕ) (os : List Opd) → Fits ret ns gs (inst id name ty (ops.CondBr b c) os) → IsReadAgain ns gs (inst id name ty (ops.CondBr b c) os)
   branch_line b c os fits =
       let typed : (ty ≡ Void) × (map (shown_ty ns gs) os ≡ Some (Int 1) ∷ []) = fits.typed in
       let void : ty ≡ Void = typed.0 in
       let rest : All (λ b. b < length ns.labels) (c ∷ []) = All-tail (λ b. b < length ns.labels) b (c ∷ []) fits.blocks in
       let first : Block ns b = block ns gs b shown (All-head (λ b. b < length ns.labels) b (c ∷ []) fits.blocks) in
       let second : Block ns c = block ns gs c shown (All-head (λ b. b < length ns.labels) c [] rest) in
-      with_one (λ os. Reads ns gs (inst id name ty (ops.CondBr b c) os)) (operands ns gs shown (Int 1 ∷ []) os fits.operands fits.pointers typed.1) (λ o is.
+      with_one (λ os. IsReadAgain ns gs (inst id name ty (ops.CondBr b c) os)) (operands ns gs shown (Int 1 ∷ []) os fits.operands fits.pointers typed.1) (λ o is.
       act_line ns gs (inst id name ty (ops.CondBr b c) (o ∷ [])) (forms.Branch (arg (Int 1) (written ns gs o)) (shown_block ns b) (shown_block ns c)) (rw void refl) (rw (void, is.type) refl) (branch_told b c o is first second))
 
   unreachable_told : Told (slots forms.Unreachable) (codes "unreachable")
   unfolding is_word_byte begins_name
   unreachable_told = told_act _ refl refl told_end
 
-  pub unreachable_line : (os : List Opd) → Fits ret ns gs (inst id name ty ops.Unreachable os) → Reads ns gs (inst id name ty ops.Unreachable os)
+  pub unreachable_line : (os : List Opd) → Fits ret ns gs (inst id name ty ops.Unreachable os) → IsReadAgain ns gs (inst id name ty ops.Unreachable os)
   unreachable_line os fits =
       let typed : (ty ≡ Void) × (map (shown_ty ns gs) os ≡ []) = fits.typed in
       let void : ty ≡ Void = typed.0 in
-      with_none (λ os. Reads ns gs (inst id name ty ops.Unreachable os)) (operands ns gs shown [] os fits.operands fits.pointers typed.1)
+      with_none (λ os. IsReadAgain ns gs (inst id name ty ops.Unreachable os)) (operands ns gs shown [] os fits.operands fits.pointers typed.1)
       (act_line ns gs (inst id name ty ops.Unreachable []) forms.Unreachable (rw void refl) (rw void refl) unreachable_told)

@@ -21,6 +21,7 @@ use Rattle.ir_print.specs.Literals.{elem_text}
 use Rattle.ir_print.specs.Operands.{typed_text}
 use Rattle.ir_print.specs.Instructions.{act_text, flag_text}
 use Rattle.rf_text.specs.Shown.{Shown, Fits, shown_ty}
+use Rattle.rf_text.specs.Printed.{IsReadAgain}
 use Rattle.rf_text.specs.Written.{written}
 use Rattle.rf_text.proofs.Words.{Told}
 use Rattle.rf_text.proofs.WordsNames.{Named}
@@ -28,7 +29,7 @@ use Rattle.rf_text.proofs.Parts.{told_part, told_end, open_texts}
 use Rattle.rf_text.proofs.PartsFlags.{BeginsPlain, Begins, open_no_flag, told_flags, one_flag, flag_word, flag_has, flag_stops}
 use Rattle.rf_text.proofs.PartsMemory.{stored_value, byte_test, elem_cut}
 use Rattle.rf_text.proofs.PartsOperands.{Operand, shown_named, told_also}
-use Rattle.rf_text.proofs.Insts.{value_line, told_result, told_code, operands, with_two, with_three, inst, Reads}
+use Rattle.rf_text.proofs.Insts.{value_line, told_result, told_code, operands, with_two, with_three, inst}
 use Rattle.rf_text.proofs.InstsValues.{begins_ty}
 use Rattle.rf_text.proofs.InstsVectors.{width_value}
 
@@ -85,34 +86,34 @@ module _ (ns : Names) (gs : List (List ℕ)) (shown : Shown ns gs) (ret : Ty) (i
       (told_also ns gs _ Ptr p refl refl is refl (told_also ns gs _ (Int k) i (width_value k width) refl js refl (told_also ns gs _ (Int j) q (width_value j second) refl ks refl told_end)))))))
 
   one_line : (e : Elem) (inbounds : Bool) (os : List Opd) (k : ℕ) → Fits ret ns gs (inst id name ty (ops.Gep e inbounds) os) → IsStep e → is_width k ≡ true → ty ≡ Ptr → map (shown_ty ns gs) os ≡ Some Ptr ∷ Some (Int k) ∷ [] →
-      Reads ns gs (inst id name ty (ops.Gep e inbounds) os)
+      IsReadAgain ns gs (inst id name ty (ops.Gep e inbounds) os)
   one_line e inbounds os k fits step width pointer types =
       let value : is_void ty ≡ false = rw pointer refl in
       let l : (l : Local) × (local_of id ns.locals ≡ Some l) = fits.result value refl in
-      with_two (λ os. Reads ns gs (inst id name ty (ops.Gep e inbounds) os)) (operands ns gs shown (Ptr ∷ Int k ∷ []) os fits.operands fits.pointers types) (λ p i is js.
+      with_two (λ os. IsReadAgain ns gs (inst id name ty (ops.Gep e inbounds) os)) (operands ns gs shown (Ptr ∷ Int k ∷ []) os fits.operands fits.pointers types) (λ p i is js.
       value_line ns gs (inst id name ty (ops.Gep e inbounds) (p ∷ i ∷ [])) l.0
       (forms.Step l.0.text (flag_word inbounds (codes "inbounds")) e (forms.arg Ptr (written ns gs p)) (forms.arg (Int k) (written ns gs i))) value refl l.1
       (rw (pointer, l.1, is.type, js.type, flag_has inbounds (codes "inbounds") refl) refl)
       (one_index l.0.text e inbounds k p i (shown_named ns gs id l.0 shown l.1) step width is js))
 
   two_line : (n w : ℕ) (inbounds : Bool) (os : List Opd) (k j : ℕ) → Fits ret ns gs (inst id name ty (ops.Gep (Array n w) inbounds) os) → IsStep (Array n w) → is_width k ≡ true → is_width j ≡ true → ty ≡ Ptr →
-      map (shown_ty ns gs) os ≡ Some Ptr ∷ Some (Int k) ∷ Some (Int j) ∷ [] → Reads ns gs (inst id name ty (ops.Gep (Array n w) inbounds) os)
+      map (shown_ty ns gs) os ≡ Some Ptr ∷ Some (Int k) ∷ Some (Int j) ∷ [] → IsReadAgain ns gs (inst id name ty (ops.Gep (Array n w) inbounds) os)
   two_line n w inbounds os k j fits step width second pointer types =
       let value : is_void ty ≡ false = rw pointer refl in
       let l : (l : Local) × (local_of id ns.locals ≡ Some l) = fits.result value refl in
-      with_three (λ os. Reads ns gs (inst id name ty (ops.Gep (Array n w) inbounds) os)) (operands ns gs shown (Ptr ∷ Int k ∷ Int j ∷ []) os fits.operands fits.pointers types) (λ p i q is js ks.
+      with_three (λ os. IsReadAgain ns gs (inst id name ty (ops.Gep (Array n w) inbounds) os)) (operands ns gs shown (Ptr ∷ Int k ∷ Int j ∷ []) os fits.operands fits.pointers types) (λ p i q is js ks.
       value_line ns gs (inst id name ty (ops.Gep (Array n w) inbounds) (p ∷ i ∷ q ∷ [])) l.0
       (forms.StepInto l.0.text (flag_word inbounds (codes "inbounds")) n w (forms.arg Ptr (written ns gs p)) (forms.arg (Int k) (written ns gs i)) (forms.arg (Int j) (written ns gs q))) value refl l.1
       (rw (pointer, l.1, is.type, js.type, ks.type, flag_has inbounds (codes "inbounds") refl) refl)
       (two_indices l.0.text n w inbounds k j p i q (shown_named ns gs id l.0 shown l.1) step width second is js ks))
 
   by_indices : (e : Elem) (inbounds : Bool) (os : List Opd) (k : ℕ) → Fits ret ns gs (inst id name ty (ops.Gep e inbounds) os) → IsStep e → is_width k ≡ true → ty ≡ Ptr →
-      (map (shown_ty ns gs) os ≡ Some Ptr ∷ Some (Int k) ∷ []) ⊎ HasTwoIndices e k (map (shown_ty ns gs) os) → Reads ns gs (inst id name ty (ops.Gep e inbounds) os)
+      (map (shown_ty ns gs) os ≡ Some Ptr ∷ Some (Int k) ∷ []) ⊎ HasTwoIndices e k (map (shown_ty ns gs) os) → IsReadAgain ns gs (inst id name ty (ops.Gep e inbounds) os)
   by_indices e inbounds os k fits step width pointer (inl types) = one_line e inbounds os k fits step width pointer types
   by_indices (One t) inbounds os k fits step width pointer (inr none) = absurd none
   by_indices (Array n w) inbounds os k fits step width pointer (inr (j, second, types)) = two_line n w inbounds os k j fits step width second pointer types
 
-  pub step_line : (e : Elem) (inbounds : Bool) (os : List Opd) → Fits ret ns gs (inst id name ty (ops.Gep e inbounds) os) → Reads ns gs (inst id name ty (ops.Gep e inbounds) os)
+  pub step_line : (e : Elem) (inbounds : Bool) (os : List Opd) → Fits ret ns gs (inst id name ty (ops.Gep e inbounds) os) → IsReadAgain ns gs (inst id name ty (ops.Gep e inbounds) os)
   step_line e inbounds os fits =
       let typed : (k : ℕ) × IsStep e × (is_width k ≡ true) × (ty ≡ Ptr) × ((map (shown_ty ns gs) os ≡ Some Ptr ∷ Some (Int k) ∷ []) ⊎ HasTwoIndices e k (map (shown_ty ns gs) os)) = fits.typed in
       by_indices e inbounds os typed.0 fits typed.1 typed.2 typed.3 typed.4

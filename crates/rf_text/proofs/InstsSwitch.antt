@@ -23,7 +23,7 @@ use Rattle.ir_print.specs.Operands.{opd_ty, typed_text, label_text}
 use Rattle.ir_print.specs.Instructions.{inst_text, case_text, cases_text, switch_width}
 use Rattle.rf_text.specs.Shown.{Shown, Fits, shown_ty}
 use Rattle.rf_text.specs.Written.{written, shown_block, stmt_of, forms_of, cases_of}
-use Rattle.rf_text.specs.Printed.{Printed}
+use Rattle.rf_text.specs.Printed.{Printed, IsReadAgain}
 use Rattle.rf_text.proofs.Words.{Told, run_texts}
 use Rattle.rf_text.proofs.WordsNames.{run_is_plain}
 use Rattle.rf_text.proofs.Parts.{Cut, told_part, told_last, told_end, told_space, led_cut, open_texts, close_texts}
@@ -31,7 +31,7 @@ use Rattle.rf_text.proofs.PartsTypes.{kind_cut, int_text}
 use Rattle.rf_text.proofs.PartsLiterals.{NumberWord, number_word}
 use Rattle.rf_text.proofs.PartsBlocks.{Block, block, target_cut}
 use Rattle.rf_text.proofs.PartsOperands.{Operand, told_typed}
-use Rattle.rf_text.proofs.Insts.{one_line, indented, printed_append, told_act, operands, with_one, inst, Reads}
+use Rattle.rf_text.proofs.Insts.{one_line, indented, printed_append, told_act, operands, with_one, inst}
 use Rattle.rf_text.proofs.InstsVectors.{width_value}
 
 told_open : Told (word (codes "[") ∷ []) (codes "[")
@@ -94,7 +94,7 @@ module _ (ns : Names) (gs : List (List ℕ)) (shown : Shown ns gs) (ret : Ty) (i
       told_act _ refl refl (told_space (told_typed ns gs _ (Int w) o (width_value w h) refl is refl (told_part _ _ {bs = 44 ∷ 32 ∷ label_text ns other} (led_cut (target_cut ns other to)) refl (told_space told_open))))
 
   switch_printed : (w other : ℕ) (ls : List (Option ℕ)) (bs : List ℕ) (o : Opd) → is_width w ≡ true → ty ≡ Void → length ls ≡ length bs → All (IsCase w) ls → Operand ns gs (Int w) o → Block ns other → All (Block ns) bs →
-      Reads ns gs (inst id name ty (ops.Switch other ls bs) (o ∷ []))
+      IsReadAgain ns gs (inst id name ty (ops.Switch other ls bs) (o ∷ []))
   switch_printed w other ls bs o h void many cases is to behind =
       let i : Inst = inst id name ty (ops.Switch other ls bs) (o ∷ []) in
       let first : List ℕ = codes "  switch " ++ (typed_text ns gs o ++ (codes ", " ++ (label_text ns other ++ codes " ["))) in
@@ -106,9 +106,9 @@ module _ (ns : Names) (gs : List (List ℕ)) (shown : Shown ns gs) (ret : Ty) (i
       rw void (in_lines (typed_text ns gs o) (label_text ns other) (cases_text ns (switch_width ns (Some o)) ls bs)) in
       rw whole all
 
-  pub switch_line : (other : ℕ) (ls : List (Option ℕ)) (bs : List ℕ) (os : List Opd) → Fits ret ns gs (inst id name ty (ops.Switch other ls bs) os) → Reads ns gs (inst id name ty (ops.Switch other ls bs) os)
+  pub switch_line : (other : ℕ) (ls : List (Option ℕ)) (bs : List ℕ) (os : List Opd) → Fits ret ns gs (inst id name ty (ops.Switch other ls bs) os) → IsReadAgain ns gs (inst id name ty (ops.Switch other ls bs) os)
   switch_line other ls bs os fits =
       let typed : (w : ℕ) × (is_width w ≡ true) × (ty ≡ Void) × (length ls ≡ length bs) × All (IsCase w) ls × AllPairs (λ a b. a ≡ b → ⊥) ls × (map (shown_ty ns gs) os ≡ Some (Int w) ∷ []) = fits.typed in
       let to : All (Block ns) (other ∷ bs) = All-weaker (λ b. b < length ns.labels) (Block ns) (λ b h. block ns gs b shown h) (other ∷ bs) fits.blocks in
-      with_one (λ os. Reads ns gs (inst id name ty (ops.Switch other ls bs) os)) (operands ns gs shown (Int typed.0 ∷ []) os fits.operands fits.pointers typed.6) (λ o is.
+      with_one (λ os. IsReadAgain ns gs (inst id name ty (ops.Switch other ls bs) os)) (operands ns gs shown (Int typed.0 ∷ []) os fits.operands fits.pointers typed.6) (λ o is.
       switch_printed typed.0 other ls bs o typed.1 typed.2 typed.3 typed.4 is (All-head (Block ns) other bs to) (All-tail (Block ns) other bs to))

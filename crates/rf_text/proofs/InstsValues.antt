@@ -29,6 +29,7 @@ use Rattle.ir_print.specs.Literals.{ty_text}
 use Rattle.ir_print.specs.Operands.{opd_text, typed_text}
 use Rattle.ir_print.specs.Instructions.{act_text, bin_word, cast_word, pred_word}
 use Rattle.rf_text.specs.Shown.{Shown, Fits, shown_ty}
+use Rattle.rf_text.specs.Printed.{IsReadAgain}
 use Rattle.rf_text.specs.Written.{written}
 use Rattle.rf_text.proofs.Words.{Told, is_run, run_texts}
 use Rattle.rf_text.proofs.WordsNames.{Named}
@@ -36,7 +37,7 @@ use Rattle.rf_text.proofs.Parts.{told_part, told_last, told_space, told_word, wo
 use Rattle.rf_text.proofs.PartsTypes.{kind_cut, ty_cut}
 use Rattle.rf_text.proofs.PartsFlags.{BeginsPlain, Begins, ty_begins, pred_no_flag, told_flags, no_flags, bin_words, bin_flags_text, flags_again, bin_refuses, cast_refuses, cast_flags_text, flag_word, flag_has}
 use Rattle.rf_text.proofs.PartsOperands.{Operand, shown_named, told_typed, told_two}
-use Rattle.rf_text.proofs.Insts.{value_line, told_result, told_code, operands, with_one, with_two, value_no_void, inst, Reads}
+use Rattle.rf_text.proofs.Insts.{value_line, told_result, told_code, operands, with_one, with_two, value_no_void, inst}
 
 pub number_value : (t : Ty) → is_number t ≡ true → is_value t ≡ true
 number_value Void h = h
@@ -192,12 +193,12 @@ module _ (ns : Names) (gs : List (List ℕ)) (shown : Shown ns gs) (ret : Ty) (i
       (told_result x named (told_code _ (bin_run op) ((bin_flags_text op f).stopped _)
       (told_flags _ _ (bin_refuses op) (bin_flags_text op f) (begins_ty ty _ value refl) (told_part _ _ (kind_cut _ ty value (number_test ty number)) refl (told_space (told_two ns gs ty a b is js))))))
 
-  pub bin_line : (op : BinOp) (f : FlagsOf) (os : List Opd) → Fits ret ns gs (inst id name ty (ops.Bin op f) os) → Reads ns gs (inst id name ty (ops.Bin op f) os)
+  pub bin_line : (op : BinOp) (f : FlagsOf) (os : List Opd) → Fits ret ns gs (inst id name ty (ops.Bin op f) os) → IsReadAgain ns gs (inst id name ty (ops.Bin op f) os)
   bin_line op f os fits =
       let typed : (is_number ty ≡ true) × (has_flags op f ≡ true) × (map (shown_ty ns gs) os ≡ Some ty ∷ Some ty ∷ []) = fits.typed in
       let value : is_void ty ≡ false = value_no_void ty (number_value ty typed.0) in
       let l : (l : Local) × (local_of id ns.locals ≡ Some l) = fits.result value refl in
-      with_two (λ os. Reads ns gs (inst id name ty (ops.Bin op f) os)) (operands ns gs shown (ty ∷ ty ∷ []) os fits.operands fits.pointers typed.2) (λ a b is js.
+      with_two (λ os. IsReadAgain ns gs (inst id name ty (ops.Bin op f) os)) (operands ns gs shown (ty ∷ ty ∷ []) os fits.operands fits.pointers typed.2) (λ a b is js.
       value_line ns gs (inst id name ty (ops.Bin op f) (a ∷ b ∷ [])) l.0 (forms.Binary l.0.text op (bin_words op f) ty (written ns gs a) (written ns gs b)) value refl l.1
       (rw (value, l.1, is.type, js.type, flags_again op f typed.1) refl)
       (bin_told l.0.text op f a b (shown_named ns gs id l.0 shown l.1) typed.0 is js))
@@ -212,14 +213,14 @@ module _ (ns : Names) (gs : List (List ℕ)) (shown : Shown ns gs) (ret : Ty) (i
       (told_flags _ _ {bs = []} (λ w n. n.samesign) (no_flags _) (begins_pred p _ refl)
       (told_part Comparison p (word_cut (read_pred p) (pred_run p)) refl (told_space (told_part _ _ (kind_cut _ u value (number_test u number)) refl (told_space (told_two ns gs u a b is js))))))))
 
-  pub icmp_line : (p : Pred) (os : List Opd) → Fits ret ns gs (inst id name ty (ops.Icmp p) os) → Reads ns gs (inst id name ty (ops.Icmp p) os)
+  pub icmp_line : (p : Pred) (os : List Opd) → Fits ret ns gs (inst id name ty (ops.Icmp p) os) → IsReadAgain ns gs (inst id name ty (ops.Icmp p) os)
   icmp_line p os fits =
       let typed : (u : Ty) × (is_number u ≡ true) × (ty ≡ with_width 1 u) × (map (shown_ty ns gs) os ≡ Some u ∷ Some u ∷ []) = fits.typed in
       let u : Ty = typed.0 in
       let truth : truth_of u ≡ ty = truth_same u typed.1 ∙ sym typed.2 in
       let value : is_void ty ≡ false = rw typed.2 (truth_no_void u typed.1) in
       let l : (l : Local) × (local_of id ns.locals ≡ Some l) = fits.result value refl in
-      with_two (λ os. Reads ns gs (inst id name ty (ops.Icmp p) os)) (operands ns gs shown (u ∷ u ∷ []) os fits.operands fits.pointers typed.3) (λ a b is js.
+      with_two (λ os. IsReadAgain ns gs (inst id name ty (ops.Icmp p) os)) (operands ns gs shown (u ∷ u ∷ []) os fits.operands fits.pointers typed.3) (λ a b is js.
       value_line ns gs (inst id name ty (ops.Icmp p) (a ∷ b ∷ [])) l.0 (forms.Compare l.0.text [] p u (written ns gs a) (written ns gs b)) value refl l.1
       (rw (value, l.1, is.type, js.type, truth) refl)
       (icmp_told l.0.text p u a b (shown_named ns gs id l.0 shown l.1) typed.1 is js)) where
@@ -239,14 +240,14 @@ module _ (ns : Names) (gs : List (List ℕ)) (shown : Shown ns gs) (ret : Ty) (i
       (told_flags _ _ (cast_refuses op) (cast_flags_text op nneg only) (begins_typed ns gs u a _ from is)
       (told_typed ns gs _ u a from (number_test u one) is refl (told_space (told_word (codes "to") refl refl (told_space (told_last _ _ (kind_cut _ ty (number_value ty two) fit)))))))))
 
-  pub cast_line : (op : CastOp) (nneg : Bool) (os : List Opd) → Fits ret ns gs (inst id name ty (ops.Cast op nneg) os) → Reads ns gs (inst id name ty (ops.Cast op nneg) os)
+  pub cast_line : (op : CastOp) (nneg : Bool) (os : List Opd) → Fits ret ns gs (inst id name ty (ops.Cast op nneg) os) → IsReadAgain ns gs (inst id name ty (ops.Cast op nneg) os)
   cast_line op nneg os fits =
       let typed : (u : Ty) × (is_number u ≡ true) × (is_number ty ≡ true) × (ty ≡ with_width (lane_width ty) u) × Converts op nneg (lane_width u) (lane_width ty) × (map (shown_ty ns gs) os ≡ Some u ∷ []) = fits.typed in
       let u : Ty = typed.0 in
       let value : is_void ty ≡ false = value_no_void ty (number_value ty typed.2) in
       let l : (l : Local) × (local_of id ns.locals ≡ Some l) = fits.result value refl in
       let only : (nneg ≡ false) ⊎ (op ≡ cast.Zext) = only_zext op nneg (lane_width u) (lane_width ty) typed.4 in
-      with_one (λ os. Reads ns gs (inst id name ty (ops.Cast op nneg) os)) (operands ns gs shown (u ∷ []) os fits.operands fits.pointers typed.5) (λ a is.
+      with_one (λ os. IsReadAgain ns gs (inst id name ty (ops.Cast op nneg) os)) (operands ns gs shown (u ∷ []) os fits.operands fits.pointers typed.5) (λ a is.
       value_line ns gs (inst id name ty (ops.Cast op nneg) (a ∷ [])) l.0 (forms.Convert l.0.text op (flag_word nneg (codes "nneg")) (forms.arg u (written ns gs a)) ty) value refl l.1
       (rw (value, l.1, is.type, flag_has nneg (codes "nneg") refl) refl)
       (cast_told l.0.text op nneg u a (shown_named ns gs id l.0 shown l.1) typed.1 typed.2 (cast_fits op nneg u ty typed.1 typed.2 typed.3 typed.4) only is))

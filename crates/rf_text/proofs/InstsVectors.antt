@@ -17,6 +17,7 @@ use Rattle.ir_print.specs.Names.{Names, local_of, is_void}
 use Rattle.ir_print.specs.Operands.{typed_text}
 use Rattle.ir_print.specs.Instructions.{act_text, mask_text}
 use Rattle.rf_text.specs.Shown.{Shown, Fits, shown_ty}
+use Rattle.rf_text.specs.Printed.{IsReadAgain}
 use Rattle.rf_text.specs.Written.{written}
 use Rattle.rf_text.proofs.Words.{Told}
 use Rattle.rf_text.proofs.WordsNames.{Named}
@@ -24,7 +25,7 @@ use Rattle.rf_text.proofs.Parts.{told_last, told_space}
 use Rattle.rf_text.proofs.PartsTypes.{row_is, by_count}
 use Rattle.rf_text.proofs.PartsBlocks.{mask_cut}
 use Rattle.rf_text.proofs.PartsOperands.{Operand, shown_named, told_typed, told_also, told_also_last}
-use Rattle.rf_text.proofs.Insts.{value_line, told_result, told_code, operands, with_two, with_three, value_no_void, inst, Reads}
+use Rattle.rf_text.proofs.Insts.{value_line, told_result, told_code, operands, with_two, with_three, value_no_void, inst}
 
 -- types of operands
 
@@ -65,13 +66,13 @@ module _ (ns : Names) (gs : List (List ℕ)) (shown : Shown ns gs) (ret : Ty) (i
       (told_result x named (told_code _ refl refl (told_space
       (told_typed ns gs _ c a by.value by.bit is refl (told_also ns gs _ ty b value by.fitting js refl (told_also_last ns gs _ ty d value (same_ty ty) ks))))))
 
-  pub select_line : (os : List Opd) → Fits ret ns gs (inst id name ty ops.Select os) → Reads ns gs (inst id name ty ops.Select os)
+  pub select_line : (os : List Opd) → Fits ret ns gs (inst id name ty ops.Select os) → IsReadAgain ns gs (inst id name ty ops.Select os)
   select_line os fits =
       let typed : (c : Ty) × (is_value ty ≡ true) × ((c ≡ Int 1) ⊎ ((is_vector ty ≡ true) × (c ≡ with_width 1 ty))) × (map (shown_ty ns gs) os ≡ Some c ∷ Some ty ∷ Some ty ∷ []) = fits.typed in
       let c : Ty = typed.0 in
       let value : is_void ty ≡ false = value_no_void ty typed.1 in
       let l : (l : Local) × (local_of id ns.locals ≡ Some l) = fits.result value refl in
-      with_three (λ os. Reads ns gs (inst id name ty ops.Select os)) (operands ns gs shown (c ∷ ty ∷ ty ∷ []) os fits.operands fits.pointers typed.3) (λ a b d is js ks.
+      with_three (λ os. IsReadAgain ns gs (inst id name ty ops.Select os)) (operands ns gs shown (c ∷ ty ∷ ty ∷ []) os fits.operands fits.pointers typed.3) (λ a b d is js ks.
       value_line ns gs (inst id name ty ops.Select (a ∷ b ∷ d ∷ [])) l.0 (forms.Select l.0.text (forms.arg c (written ns gs a)) (forms.arg ty (written ns gs b)) (forms.arg ty (written ns gs d))) value refl l.1
       (rw (value, l.1, is.type, js.type, ks.type) refl)
       (three_told l.0.text c a b d (shown_named ns gs id l.0 shown l.1) (chooser c ty typed.2) typed.1 is js ks))
@@ -82,7 +83,7 @@ module _ (ns : Names) (gs : List (List ℕ)) (shown : Shown ns gs) (ret : Ty) (i
   extract_told x n w k a i named row width is js =
       told_result x named (told_code _ refl refl (told_space (told_typed ns gs _ (Row n w) a row refl is refl (told_also_last ns gs _ (Int k) i (width_value k width) refl js))))
 
-  pub extract_line : (os : List Opd) → Fits ret ns gs (inst id name ty ops.Extract os) → Reads ns gs (inst id name ty ops.Extract os)
+  pub extract_line : (os : List Opd) → Fits ret ns gs (inst id name ty ops.Extract os) → IsReadAgain ns gs (inst id name ty ops.Extract os)
   extract_line os fits =
       let typed : (n w k : ℕ) × (is_vector (Row n w) ≡ true) × (is_width k ≡ true) × (ty ≡ Int w) × (map (shown_ty ns gs) os ≡ Some (Row n w) ∷ Some (Int k) ∷ []) = fits.typed in
       let n : ℕ = typed.0 in
@@ -90,7 +91,7 @@ module _ (ns : Names) (gs : List (List ℕ)) (shown : Shown ns gs) (ret : Ty) (i
       let k : ℕ = typed.2 in
       let value : is_void ty ≡ false = rw typed.5 refl in
       let l : (l : Local) × (local_of id ns.locals ≡ Some l) = fits.result value refl in
-      with_two (λ os. Reads ns gs (inst id name ty ops.Extract os)) (operands ns gs shown (Row n w ∷ Int k ∷ []) os fits.operands fits.pointers typed.6) (λ a i is js.
+      with_two (λ os. IsReadAgain ns gs (inst id name ty ops.Extract os)) (operands ns gs shown (Row n w ∷ Int k ∷ []) os fits.operands fits.pointers typed.6) (λ a i is js.
       value_line ns gs (inst id name ty ops.Extract (a ∷ i ∷ [])) l.0 (forms.Extract l.0.text (forms.arg (Row n w) (written ns gs a)) (forms.arg (Int k) (written ns gs i))) value refl l.1
       (rw (typed.5, l.1, is.type, js.type) refl)
       (extract_told l.0.text n w k a i (shown_named ns gs id l.0 shown l.1) typed.3 typed.4 is js))
@@ -103,7 +104,7 @@ module _ (ns : Names) (gs : List (List ℕ)) (shown : Shown ns gs) (ret : Ty) (i
       (told_result x named (told_code _ refl refl (told_space
       (told_typed ns gs _ (Row n w) a row refl is refl (told_also ns gs _ (Int w) b (width_value w lane) (eq-eqb w w refl) js refl (told_also_last ns gs _ (Int k) i (width_value k width) refl ks))))))
 
-  pub insert_line : (os : List Opd) → Fits ret ns gs (inst id name ty ops.Insert os) → Reads ns gs (inst id name ty ops.Insert os)
+  pub insert_line : (os : List Opd) → Fits ret ns gs (inst id name ty ops.Insert os) → IsReadAgain ns gs (inst id name ty ops.Insert os)
   insert_line os fits =
       let typed : (n w k : ℕ) × (is_vector (Row n w) ≡ true) × (is_width k ≡ true) × (ty ≡ Row n w) × (map (shown_ty ns gs) os ≡ Some (Row n w) ∷ Some (Int w) ∷ Some (Int k) ∷ []) = fits.typed in
       let n : ℕ = typed.0 in
@@ -111,7 +112,7 @@ module _ (ns : Names) (gs : List (List ℕ)) (shown : Shown ns gs) (ret : Ty) (i
       let k : ℕ = typed.2 in
       let value : is_void ty ≡ false = rw typed.5 refl in
       let l : (l : Local) × (local_of id ns.locals ≡ Some l) = fits.result value refl in
-      with_three (λ os. Reads ns gs (inst id name ty ops.Insert os)) (operands ns gs shown (Row n w ∷ Int w ∷ Int k ∷ []) os fits.operands fits.pointers typed.6) (λ a b i is js ks.
+      with_three (λ os. IsReadAgain ns gs (inst id name ty ops.Insert os)) (operands ns gs shown (Row n w ∷ Int w ∷ Int k ∷ []) os fits.operands fits.pointers typed.6) (λ a b i is js ks.
       value_line ns gs (inst id name ty ops.Insert (a ∷ b ∷ i ∷ [])) l.0
       (forms.Insert l.0.text (forms.arg (Row n w) (written ns gs a)) (forms.arg (Int w) (written ns gs b)) (forms.arg (Int k) (written ns gs i))) value refl l.1
       (rw (typed.5, l.1, is.type, js.type, ks.type) refl)
@@ -130,7 +131,7 @@ module _ (ns : Names) (gs : List (List ℕ)) (shown : Shown ns gs) (ret : Ty) (i
       (told_result x named (told_code _ refl refl (told_space
       (told_typed ns gs _ (Row n w) a row refl is refl (told_also ns gs _ (Row n w) b row (same_ty (Row n w)) js refl (told_last _ _ (mask_cut n w mask (row_is n w row) (row_is (length mask) w result) all)))))))
 
-  pub shuffle_line : (mask : List (Option ℕ)) (os : List Opd) → Fits ret ns gs (inst id name ty (ops.Shuffle mask) os) → Reads ns gs (inst id name ty (ops.Shuffle mask) os)
+  pub shuffle_line : (mask : List (Option ℕ)) (os : List Opd) → Fits ret ns gs (inst id name ty (ops.Shuffle mask) os) → IsReadAgain ns gs (inst id name ty (ops.Shuffle mask) os)
   shuffle_line mask os fits =
       let typed : (n w : ℕ) × (is_vector (Row n w) ≡ true) × (is_vector ty ≡ true) × (ty ≡ Row (length mask) w) × All (IsEntry (2 * n)) mask × (map (shown_ty ns gs) os ≡ Some (Row n w) ∷ Some (Row n w) ∷ []) = fits.typed in
       let n : ℕ = typed.0 in
@@ -138,7 +139,7 @@ module _ (ns : Names) (gs : List (List ℕ)) (shown : Shown ns gs) (ret : Ty) (i
       let value : is_void ty ≡ false = rw typed.4 refl in
       let result : is_vector (Row (length mask) w) ≡ true = rw typed.4 at typed.3 in
       let l : (l : Local) × (local_of id ns.locals ≡ Some l) = fits.result value refl in
-      with_two (λ os. Reads ns gs (inst id name ty (ops.Shuffle mask) os)) (operands ns gs shown (Row n w ∷ Row n w ∷ []) os fits.operands fits.pointers typed.6) (λ a b is js.
+      with_two (λ os. IsReadAgain ns gs (inst id name ty (ops.Shuffle mask) os)) (operands ns gs shown (Row n w ∷ Row n w ∷ []) os fits.operands fits.pointers typed.6) (λ a b is js.
       value_line ns gs (inst id name ty (ops.Shuffle mask) (a ∷ b ∷ [])) l.0
       (forms.Shuffle l.0.text (forms.arg (Row n w) (written ns gs a)) (forms.arg (Row n w) (written ns gs b)) (Row (length mask) w, mask)) value refl l.1
       (rw (typed.4, l.1, is.type, js.type) refl)

@@ -9,6 +9,7 @@ pub mod HeadsTyped
 pub mod HeadsTypes
 pub mod Insts
 pub mod InstsAll
+pub mod InstsBodies
 pub mod InstsFlow
 pub mod InstsLabels
 pub mod InstsMemory

@@ -19,3 +19,8 @@ pub fn printed_braces()
     ensures brace { printed.BracesAreReadAgain }
     ensures gap { printed.GapsAreReadAgain }
 {}
+
+/// The body of a function is printed as the lines of its blocks and its brace, wherever each of its instructions is read again.
+pub fn printed_bodies()
+    ensures { printed.BodiesAreReadAgain }
+{}
