@@ -1,9 +1,11 @@
 -- Lines that are written one behind the other, and lines that are kept.
 use Rattle.std.specs.Prelude.{◌≡◌, refl, ℕ, ◌==◌, ◌||◌, not, Bool, true, false, Some, List, [], ◌∷◌, ◌++◌, codes}
 use Rattle.std.specs.List.{list_all}
+use Rattle.ir_lex.specs.Scan.{texts}
 use Rattle.ir_line.specs.declared.line.Line.{Line}
 use Rattle.ir_line.specs.declared.line.Line.TheVariants as line
 use Rattle.ir_line.specs.declared.kept.Kept.{Kept}
+use Rattle.ir_line.specs.Keeping.{kept_of}
 use Rattle.ir_read.specs.Lines.{lines_of}
 use Rattle.ir_read.specs.Forms.{form_in}
 
@@ -24,6 +26,7 @@ is_line bs = list_all stays_in_line bs
 abbrev pub LinesAgain : Type 0
 LinesAgain = (ls : List (List ℕ)) → list_all is_line ls ≡ true → lines_of (joined ls) ≡ ls
 
+-- an empty line is its line feed
 two_lines : joined (codes "a" ∷ [] ∷ codes "b" ∷ []) ≡ codes "a\n\nb\n"
 two_lines = refl
 
@@ -34,3 +37,7 @@ FormsAreOfLines = (inside : Bool) (l : List ℕ) (form : Line) → form_in insid
 -- what is kept of a line outside functions, read as a line, is kept as the same
 abbrev pub KeptAgain : Type 0
 KeptAgain = (l : List ℕ) (kept : Kept) → form_in false l ≡ Some (line.Kept kept) → form_in false kept.text ≡ Some (line.Kept kept)
+
+-- and all that was read of the line is read of that
+abbrev pub KeptByText : Type 0
+KeptByText = (l : List ℕ) (kept : Kept) → form_in false l ≡ Some (line.Kept kept) → kept ≡ kept_of kept.text (texts kept.text)

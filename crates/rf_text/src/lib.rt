@@ -7,6 +7,6 @@
 mod outside;
 
 pub use outside::{
-    forms_are_of_lines, headers_again, headers_are_heads, heads_of_lines, kept_lines_again,
-    lines_again, params_are_shown,
+    forms_are_of_lines, headers_again, headers_are_heads, heads_of_lines, kept_by_text,
+    kept_lines_again, lines_again, params_are_shown,
 };

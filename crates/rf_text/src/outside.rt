@@ -1,8 +1,7 @@
 //! Laws of what stands outside functions: the lines of a text, the lines that are kept, the headers of functions.
 
-ghost use Rattle.std.specs.Prelude.{◌≡◌, ℕ, List};
 ghost use Rattle.rf_text.specs.Headed.{HeadersAgain, HeadersAreHeads, HeadsOfLines, ParamsAreShown};
-ghost use Rattle.rf_text.specs.LinesOf.{LinesAgain, FormsAreOfLines, KeptAgain};
+ghost use Rattle.rf_text.specs.LinesOf.{LinesAgain, FormsAreOfLines, KeptAgain, KeptByText};
 
 /// Lines written one behind the other, each with a line feed behind it, are read as these lines.
 pub fn lines_again()
@@ -19,6 +18,11 @@ pub fn kept_lines_again()
     ensures { KeptAgain }
 {}
 
+/// All that is read of a kept line is read of what is kept of it.
+pub fn kept_by_text()
+    ensures { KeptByText }
+{}
+
 /// The header line of a function whose header is of the profile, and whose parameters are all shown, is read as its header, each
 /// parameter by the name or number that is shown of it.
 pub fn headers_again()
@@ -31,12 +35,12 @@ pub fn headers_are_heads()
     ensures { HeadersAreHeads }
 {}
 
-/// Where the written names of a function's values are names of locals, each of its parameters is shown, by its name or its number.
-pub fn params_are_shown()
-    ensures { ParamsAreShown }
-{}
-
 /// The same of the header of every line outside functions.
 pub fn heads_of_lines()
     ensures { HeadsOfLines }
+{}
+
+/// Where the written names of a function's values are names of locals, each of its parameters is shown, by its name or its number.
+pub fn params_are_shown()
+    ensures { ParamsAreShown }
 {}
