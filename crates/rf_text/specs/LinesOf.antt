@@ -1,7 +1,7 @@
 -- Lines that are written one behind the other, and lines that are kept.
-use Rattle.std.specs.Prelude.{◌≡◌, refl, ℕ, ◌==◌, ◌||◌, not, Bool, true, false, Some, List, [], ◌∷◌, ◌++◌, codes}
+use Rattle.std.specs.Prelude.{◌≡◌, refl, ℕ, ◌==◌, ◌||◌, not, Bool, true, false, None, Some, List, [], ◌∷◌, ◌++◌, codes}
 use Rattle.std.specs.List.{list_all}
-use Rattle.ir_lex.specs.Scan.{texts}
+use Rattle.ir_lex.specs.Scan.{texts, fault_of}
 use Rattle.ir_line.specs.declared.line.Line.{Line}
 use Rattle.ir_line.specs.declared.line.Line.TheVariants as line
 use Rattle.ir_line.specs.declared.kept.Kept.{Kept}
@@ -30,7 +30,11 @@ LinesAgain = (ls : List (List ℕ)) → list_all is_line ls ≡ true → lines_o
 two_lines : joined (codes "a" ∷ [] ∷ codes "b" ∷ []) ≡ codes "a\n\nb\n"
 two_lines = refl
 
--- a line that has a form has no byte that ends a line
+-- a line without a lexical fault has no byte that ends a line
+abbrev pub SoundAreLines : Type 0
+SoundAreLines = (l : List ℕ) → fault_of l ≡ None → is_line l ≡ true
+
+-- nor has one that has a form
 abbrev pub FormsAreOfLines : Type 0
 FormsAreOfLines = (inside : Bool) (l : List ℕ) (form : Line) → form_in inside l ≡ Some form → is_line l ≡ true
 

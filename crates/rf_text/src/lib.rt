@@ -8,5 +8,5 @@ mod outside;
 
 pub use outside::{
     forms_are_of_lines, headers_again, headers_are_heads, heads_of_lines, kept_by_text,
-    kept_lines_again, lines_again, params_are_shown,
+    kept_lines_again, lines_again, params_are_shown, sound_are_lines,
 };

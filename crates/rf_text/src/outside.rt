@@ -1,11 +1,16 @@
 //! Laws of what stands outside functions: the lines of a text, the lines that are kept, the headers of functions.
 
 ghost use Rattle.rf_text.specs.Headed.{HeadersAgain, HeadersAreHeads, HeadsOfLines, ParamsAreShown};
-ghost use Rattle.rf_text.specs.LinesOf.{LinesAgain, FormsAreOfLines, KeptAgain, KeptByText};
+ghost use Rattle.rf_text.specs.LinesOf.{LinesAgain, SoundAreLines, FormsAreOfLines, KeptAgain, KeptByText};
 
 /// Lines written one behind the other, each with a line feed behind it, are read as these lines.
 pub fn lines_again()
     ensures { LinesAgain }
+{}
+
+/// A line without a lexical fault has no byte that ends a line.
+pub fn sound_are_lines()
+    ensures { SoundAreLines }
 {}
 
 /// A line that has a form, inside a function or outside, has no byte that ends a line.
