@@ -3,10 +3,11 @@ use Rattle.std.proofs.Common.{◌≡◌, ℕ, not, Bool, true, false, List, [], 
 use Rattle.std.proofs.lemmas.Bool.Decides.{nat_tests}
 use Rattle.std.specs.List.{list_all}
 use Rattle.ir_lex.specs.Bytes.{is_control}
-use Rattle.ir_lex.specs.Scan.{cut, fault_of}
+use Rattle.ir_lex.specs.Scan.{cut, texts, fault_of}
 use Rattle.ir_lex.specs.Words.{words}
 use Rattle.ir_lex.specs.declared.list.Token.{Token}
 use Rattle.ir_lex.proofs.Classes.{both}
+use Rattle.ir_lex.proofs.Laws.{words_of_line}
 use Rattle.ir_lex.proofs.Standing.{Shorter, without_spaces, no_controls}
 use Rattle.ir_line.specs.declared.line.Line.{Line}
 use Rattle.ir_line.specs.declared.line.Line.TheVariants as line
@@ -57,6 +58,16 @@ kept_again l kept e =
     let again : Spells (trimmed l) (cut (trimmed l)) (line.Kept kept) = same_kept l (trimmed l) (cut l) (cut (trimmed l)) kept shorter.same t.once spelled in
     subst (λ (x : List ℕ). form_in false x ≡ Some (line.Kept kept)) (sym (kept_text spelled))
     (has_form false (trimmed l) (line.Kept kept) (record { sound = shorter.sound; read = outside_read (trimmed l) (cut (trimmed l)) again }))
+
+-- what is read of a kept line, by its words
+pub kept_is : (l : List ℕ) (kept : Kept) → form_in false l ≡ Some (line.Kept kept) → kept ≡ kept_of l (texts l)
+unfolding form_by
+kept_is l kept e = here (outside_spelled l (cut l) (line.Kept kept) (formed false l (line.Kept kept) e).read) where
+  here : {kept : Kept} → Spells l (cut l) (line.Kept kept) → kept ≡ kept_of l (texts l)
+  here (KeptLine k) = ap (kept_of l) (words_of_line l)
+
+pub kept_by_text : (l : List ℕ) (kept : Kept) → form_in false l ≡ Some (line.Kept kept) → kept ≡ kept_of kept.text (texts kept.text)
+kept_by_text l kept e = kept_is kept.text kept (kept_again l kept e)
 
 -- no control byte ends a line
 stays : (b : ℕ) → not (is_control b) ≡ true → stays_in_line b ≡ true

@@ -122,6 +122,7 @@ pub record HeaderAgain (ns : Names) (f : Func) : Type 0 where
 abbrev pub HeadersAgain : Type 0
 HeadersAgain = (ns : Names) (f : Func) → IsHeaded ns f → HeaderAgain ns f
 
+-- a number is the name of a local, but not with a leading zero
 zero : is_local_name (codes "0") ≡ true
 unfolding begins_name is_digit
 zero = refl
