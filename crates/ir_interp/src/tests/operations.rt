@@ -1,7 +1,7 @@
 //! Operations on values: arithmetic, comparisons, conversions, choices, lanes of vectors.
 
-use super::{Typed, gives, lits};
-use ir_types::{Op, Ty};
+use super::{Form, Typed, gives, ty_of};
+use ir_types::Ty;
 use std::alloc::Global;
 use std::test::Fail;
 use vx_num::{BinOp, CastOp, Flags, Lane, Pred};
@@ -105,7 +105,7 @@ fn bin_gives(alloc: Global, case: (BinOp, Flags, Lane, Lane, Option<Lane>)) -> R
     };
     gives(
         alloc,
-        Op::Bin { op, flags },
+        Form::Bin(op, flags),
         &[Typed::Int(8, a), Typed::Int(8, b)],
         Ty::Int(8),
         expected,
@@ -132,7 +132,7 @@ fn rows_give(
     let args = [Typed::Row(32, left), Typed::Row(32, right)];
     gives(
         alloc,
-        Op::Bin { op, flags: PLAIN },
+        Form::Bin(op, PLAIN),
         &args,
         Ty::Row { n: 2, w: 32 },
         expected,
@@ -197,7 +197,7 @@ fn cmp_gives(alloc: Global, pred: Pred, a: Lane, expected: Lane) -> Result<bool,
     let args = [Typed::Int(8, a), Typed::Int(8, Some(1))];
     gives(
         alloc,
-        Op::Icmp { pred },
+        Form::Icmp(pred),
         &args,
         Ty::Int(1),
         Some(Typed::Int(1, expected)),
@@ -239,7 +239,7 @@ fn cast_gives(alloc: Global, case: (CastOp, bool, u8, Lane, u8, Lane)) -> Result
     let (op, nneg, from, a, to, expected) = case;
     gives(
         alloc,
-        Op::Cast { op, nneg },
+        Form::Cast(op, nneg),
         &[Typed::Int(from, a)],
         Ty::Int(to),
         Some(Typed::Int(to, expected)),
@@ -264,9 +264,9 @@ fn select_gives(
 ) -> Result<bool, Fail> {
     gives(
         alloc,
-        Op::Select,
+        Form::Select,
         &[condition, left, right],
-        left.ty(),
+        ty_of(left),
         Some(expected),
     )
 }
@@ -316,15 +316,15 @@ fn lanes_at(alloc: Global, index: Lane, taken: Lane, put: &[Lane]) -> Result<boo
     Ok(
         gives(
             alloc,
-            Op::Extract,
+            Form::Extract,
             &[row, at],
             Ty::Int(8),
             Some(Typed::Int(8, taken)),
         )? && gives(
             alloc,
-            Op::Insert,
+            Form::Insert,
             &[row, Typed::Int(8, Some(7)), at],
-            row.ty(),
+            ty_of(row),
             Some(Typed::Row(8, put)),
         )?,
     )
@@ -338,13 +338,13 @@ fn lanes_of_vectors(rt: HostRuntime) -> Result<(), Fail> {
     assert!(rt; lanes_at(alloc, Some(2), None, &[None, None])?);
     assert!(rt; lanes_at(alloc, None, None, &[None, None])?);
     let (left, right) = ([Some(10), Some(11)], [Some(12), Some(13)]);
-    let mask = lits(alloc, &[Some(3), Some(0), None, Some(1)])?;
+    let mask = [Some(3), Some(0), None, Some(1)];
     let all = [Some(13), Some(10), None, Some(11)];
     let args = [Typed::Row(8, &left), Typed::Row(8, &right)];
     assert!(rt;
         gives(
             alloc,
-            Op::Shuffle { mask },
+            Form::Shuffle(&mask),
             &args,
             Ty::Row { n: 4, w: 8 },
             Some(Typed::Row(8, &all))
