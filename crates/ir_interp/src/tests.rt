@@ -88,7 +88,7 @@ struct Case<'a> {
     expected: Expected<'a>,
 }
 
-fn line<'a>(ty: Ty, form: Form<'a>, args: &'a [Arg]) -> Line<'a> {
+fn op_on<'a>(ty: Ty, form: Form<'a>, args: &'a [Arg]) -> Line<'a> {
     Line { ty, form, args }
 }
 
