@@ -1,7 +1,7 @@
 //! Runs of small functions, by the table of meanings: what each form gives, where it is poison and where it is undefined.
 //!
-//! Expected values are worked out by hand. A case is plain data, of which a module is made; that fails for want of memory alone.
-//! The ids of a case are numbers: its parameters from 0, then its lines in order.
+//! Expected values are worked out by hand. A function is plain data, of which a module is made; that fails for want of memory
+//! alone. Its ids are numbers: the parameters from 0, then the lines in order. A block ends behind each terminator.
 
 mod accesses;
 mod control;
@@ -10,8 +10,8 @@ mod operations;
 use crate::run;
 use ir_model::{Memory, Object, Outcome, Value, Values};
 use ir_types::{
-    Block, Bytes, Elem, Func, Id, Inst, Item, Literal, Lits, Module, Numbers, Op, Opd, Opds, Param,
-    Params, Ty,
+    Block, Blocks, Bytes, Elem, Func, Id, Inst, Insts, Item, Literal, Lits, Module, Numbers, Op,
+    Opd, Opds, Param, Params, Ty,
 };
 use std::alloc::Global;
 use std::test::Fail;
@@ -20,15 +20,21 @@ use vx_num::{BinOp, CastOp, Flags, Lane, Pred};
 
 /// A typed value.
 #[derive(Clone, Copy)]
-enum Typed<'a> {
+enum Typed {
     Int(u8, Lane),
-    Row(u8, &'a [Lane]),
+    /// The first so many of these lanes, of a width.
+    Row(u8, u8, [Lane; 4]),
     Ptr(Option<(u32, i64)>),
 }
+
+/// An object: the first so many of these bytes.
+#[derive(Clone, Copy)]
+struct Bytes8(usize, [Option<u8>; 8]);
 
 /// An operand.
 #[derive(Clone, Copy)]
 enum Arg {
+    Absent,
     /// A parameter or a line.
     Val(u32),
     /// A literal of a width.
@@ -39,58 +45,45 @@ enum Arg {
 
 /// An operation.
 #[derive(Clone, Copy)]
-enum Form<'a> {
+enum Form {
     Bin(BinOp, Flags),
     Icmp(Pred),
     Cast(CastOp, bool),
     Select,
     Extract,
     Insert,
-    Shuffle(&'a [Lane]),
+    Shuffle([Lane; 4]),
     Gep(Elem, bool),
     Load(u64),
     Store(u64),
     Alloca(Elem),
-    Phi(&'a [u32]),
+    /// From blocks 0 and 1.
+    Phi,
     Ret,
     Br(u32),
     CondBr(u32, u32),
-    Switch(u32, &'a [Lane], &'a [u32]),
+    /// Case 3 to block 2, others to block 1.
+    Switch,
     Unreachable,
 }
 
 /// An instruction: its type, its operation, its operands.
 #[derive(Clone, Copy)]
-struct Line<'a> {
-    ty: Ty,
-    form: Form<'a>,
-    args: &'a [Arg],
-}
+struct Line(Ty, Form, [Arg; 3]);
 
-/// How a run is to end.
+/// How a run starts: on so many globals, with a `noalias` first parameter or not, under a bound.
 #[derive(Clone, Copy)]
-enum Expected<'a> {
-    Undefined,
-    Cut(&'a [&'a [Option<u8>]]),
-    Returned(Option<Typed<'a>>, &'a [&'a [Option<u8>]]),
-}
-
-/// A module of so many globals and one function, and a run of it.
-#[derive(Clone, Copy)]
-struct Case<'a> {
+struct Start {
     globals: u32,
-    /// Which parameters are `noalias`.
-    noalias: &'a [bool],
-    blocks: &'a [&'a [Line<'a>]],
-    args: &'a [Typed<'a>],
-    objects: &'a [&'a [Option<u8>]],
+    noalias: bool,
     bound: u64,
-    expected: Expected<'a>,
 }
 
-fn op_on<'a>(ty: Ty, form: Form<'a>, args: &'a [Arg]) -> Line<'a> {
-    Line { ty, form, args }
-}
+const ONCE: Start = Start {
+    globals: 0,
+    noalias: false,
+    bound: 1,
+};
 
 fn lits(alloc: Global, lanes: &[Lane]) -> Result<Lits, Fail> {
     let mut all = Lits::new(alloc);
@@ -104,26 +97,23 @@ fn numbers(alloc: Global, items: &[u32]) -> Result<Numbers, Fail> {
     Ok(Numbers::from_vec(Vec::from_slice(alloc, items)?))
 }
 
-fn ty_of(typed: Typed<'_>) -> Ty {
+fn ty_of(typed: Typed) -> Ty {
     match typed {
         Typed::Int(w, _) => Ty::Int(w),
-        Typed::Row(w, lanes) => Ty::Row {
-            n: (lanes.len() % 256) as u8,
-            w,
-        },
+        Typed::Row(w, n, _) => Ty::Row { n, w },
         Typed::Ptr(_) => Ty::Ptr,
     }
 }
 
-fn value_of(alloc: Global, typed: Typed<'_>) -> Result<Value, Fail> {
+fn value_of(alloc: Global, typed: Typed) -> Result<Value, Fail> {
     match typed {
         Typed::Int(_, lane) => Ok(Value::Lane(lane)),
-        Typed::Row(_, lanes) => Ok(Value::Row(lits(alloc, lanes)?)),
+        Typed::Row(_, n, lanes) => Ok(Value::Row(lits(alloc, &lanes[..usize::from(n).min(4)])?)),
         Typed::Ptr(pointer) => Ok(Value::Ptr(pointer)),
     }
 }
 
-fn values_of(alloc: Global, typed: &[Typed<'_>]) -> Result<Values, Fail> {
+fn values_of(alloc: Global, typed: &[Typed]) -> Result<Values, Fail> {
     let mut all = Values::new(alloc);
     for one in typed {
         all.push(value_of(alloc, *one)?)?;
@@ -131,10 +121,18 @@ fn values_of(alloc: Global, typed: &[Typed<'_>]) -> Result<Values, Fail> {
     Ok(all)
 }
 
-fn memory_of(alloc: Global, objects: &[&[Option<u8>]]) -> Result<Memory, Fail> {
+fn object_of(alloc: Global, object: Bytes8) -> Result<Object, Fail> {
+    let mut bytes = Object::new(alloc);
+    for byte in &object.1[..object.0.min(8)] {
+        bytes.push(*byte)?;
+    }
+    Ok(bytes)
+}
+
+fn memory_of(alloc: Global, objects: &[Bytes8]) -> Result<Memory, Fail> {
     let mut all = Memory::new(alloc);
     for object in objects {
-        all.push(Object::from_vec(Vec::from_slice(alloc, *object)?))?;
+        all.push(object_of(alloc, *object)?)?;
     }
     Ok(all)
 }
@@ -143,34 +141,37 @@ fn id(k: u32) -> Id {
     Id { region: 0, k }
 }
 
-fn opd_of(alloc: Global, arg: Arg) -> Result<Opd, Fail> {
-    match arg {
-        Arg::Val(k) => Ok(Opd::Val(id(k))),
-        Arg::Lit(w, n) => Ok(Opd::Lit(Literal {
-            ty: Ty::Int(w),
-            lanes: lits(alloc, &[Some(n)])?,
-        })),
-        Arg::Sym(global) => Ok(Opd::Sym(global)),
-    }
+fn literal_of(alloc: Global, w: u8, n: u64) -> Result<Opd, Fail> {
+    Ok(Opd::Lit(Literal {
+        ty: Ty::Int(w),
+        lanes: lits(alloc, &[Some(n)])?,
+    }))
 }
 
-fn opds_of(alloc: Global, args: &[Arg]) -> Result<Opds, Fail> {
+fn opds_of(alloc: Global, args: [Arg; 3]) -> Result<Opds, Fail> {
     let mut all = Opds::new(alloc);
-    for arg in args {
-        all.push(opd_of(alloc, *arg)?)?;
+    for arg in &args {
+        match *arg {
+            Arg::Absent => {}
+            Arg::Val(k) => all.push(Opd::Val(id(k)))?,
+            Arg::Lit(w, n) => all.push(literal_of(alloc, w, n)?)?,
+            Arg::Sym(global) => all.push(Opd::Sym(global))?,
+        }
     }
     Ok(all)
 }
 
-fn switch_of(alloc: Global, other: u32, cases: &[Lane], to: &[u32]) -> Result<Op, Fail> {
+fn switch_of(alloc: Global) -> Result<Op, Fail> {
+    let cases = lits(alloc, &[None, Some(3), Some(3)])?;
+    let to = numbers(alloc, &[1, 2, 1])?;
     Ok(Op::Switch {
-        other,
-        cases: lits(alloc, cases)?,
-        to: numbers(alloc, to)?,
+        other: 1,
+        cases,
+        to,
     })
 }
 
-fn op_of(alloc: Global, form: Form<'_>) -> Result<Op, Fail> {
+fn op_of(alloc: Global, form: Form) -> Result<Op, Fail> {
     match form {
         Form::Bin(op, flags) => Ok(Op::Bin { op, flags }),
         Form::Icmp(pred) => Ok(Op::Icmp { pred }),
@@ -179,57 +180,62 @@ fn op_of(alloc: Global, form: Form<'_>) -> Result<Op, Fail> {
         Form::Extract => Ok(Op::Extract),
         Form::Insert => Ok(Op::Insert),
         Form::Shuffle(mask) => Ok(Op::Shuffle {
-            mask: lits(alloc, mask)?,
+            mask: lits(alloc, &mask)?,
         }),
         Form::Gep(elem, inbounds) => Ok(Op::Gep { elem, inbounds }),
         Form::Load(align) => Ok(Op::Load { align }),
         Form::Store(align) => Ok(Op::Store { align }),
         Form::Alloca(elem) => Ok(Op::Alloca { elem, align: None }),
-        Form::Phi(blocks) => Ok(Op::Phi {
-            blocks: numbers(alloc, blocks)?,
+        Form::Phi => Ok(Op::Phi {
+            blocks: numbers(alloc, &[0, 1])?,
         }),
         Form::Ret => Ok(Op::Ret),
         Form::Br(to) => Ok(Op::Br { to }),
         Form::CondBr(yes, no) => Ok(Op::CondBr { yes, no }),
-        Form::Switch(other, cases, to) => switch_of(alloc, other, cases, to),
+        Form::Switch => switch_of(alloc),
         Form::Unreachable => Ok(Op::Unreachable),
     }
 }
 
-fn inst_of(alloc: Global, k: u32, line: Line<'_>) -> Result<Inst, Fail> {
-    let op = op_of(alloc, line.form)?;
-    let opds = opds_of(alloc, line.args)?;
+fn inst_of(alloc: Global, k: u32, line: Line) -> Result<Inst, Fail> {
+    let op = op_of(alloc, line.1)?;
     Ok(Inst {
         id: id(k),
         name: None,
-        ty: line.ty,
+        ty: line.0,
         op,
-        opds,
+        opds: opds_of(alloc, line.2)?,
     })
 }
 
-/// The block of lines whose ids begin with a number.
-fn block_of(alloc: Global, first: u32, lines: &[Line<'_>]) -> Result<Block, Fail> {
-    let mut insts = Seq::new(alloc);
+fn ends(form: Form) -> bool {
+    matches!(
+        form,
+        Form::Ret | Form::Br(_) | Form::CondBr(_, _) | Form::Switch | Form::Unreachable
+    )
+}
+
+/// The blocks of lines whose ids begin with a number.
+fn blocks_of(alloc: Global, first: u32, lines: &[Line]) -> Result<Blocks, Fail> {
+    let mut blocks = Blocks::new(alloc);
+    let mut insts = Insts::new(alloc);
     let mut k = first;
     for line in lines {
         insts.push(inst_of(alloc, k, *line)?)?;
         k = k.wrapping_add(1);
+        if ends(line.1) {
+            let done = std::mem::replace(&mut insts, Insts::new(alloc));
+            blocks.push(Block {
+                name: None,
+                insts: done,
+            })?;
+        }
     }
-    Ok(Block { name: None, insts })
+    Ok(blocks)
 }
 
-fn blocks_of(alloc: Global, first: u32, blocks: &[&[Line<'_>]]) -> Result<Seq<Block>, Fail> {
-    let mut all = Seq::new(alloc);
-    let mut k = first;
-    for lines in blocks {
-        all.push(block_of(alloc, k, *lines)?)?;
-        k = k.wrapping_add((lines.len() % 256) as u32);
-    }
-    Ok(all)
-}
-
-fn params_of(alloc: Global, args: &[Typed<'_>], noalias: &[bool]) -> Result<Params, Fail> {
+/// Parameters of the types of arguments, of which the first may be `noalias`.
+fn params_of(alloc: Global, args: &[Typed], noalias: bool) -> Result<Params, Fail> {
     let mut all = Params::new(alloc);
     let mut k = 0u32;
     for arg in args {
@@ -238,33 +244,32 @@ fn params_of(alloc: Global, args: &[Typed<'_>], noalias: &[bool]) -> Result<Para
             name: None,
             ty: ty_of(*arg),
             attrs: Bytes::new(alloc),
-            noalias: matches!(noalias.get(k as usize), Some(true)),
+            noalias: noalias && k == 0,
         })?;
         k = k.wrapping_add(1);
     }
     Ok(all)
 }
 
-fn func_of(alloc: Global, case: &Case<'_>) -> Result<Func, Fail> {
-    let params = params_of(alloc, case.args, case.noalias)?;
-    let blocks = blocks_of(alloc, (case.args.len() % 256) as u32, case.blocks)?;
+fn func_of(alloc: Global, noalias: bool, lines: &[Line], args: &[Typed]) -> Result<Func, Fail> {
+    let params = params_of(alloc, args, noalias)?;
     Ok(Func {
         before: Bytes::new(alloc),
         ret: Ty::Void,
         name: Bytes::new(alloc),
         params,
         after: Bytes::new(alloc),
-        blocks,
+        blocks: blocks_of(alloc, (args.len() % 256) as u32, lines)?,
     })
 }
 
-fn module_of(alloc: Global, case: &Case<'_>) -> Result<Module, Fail> {
+fn module_of(alloc: Global, start: Start, lines: &[Line], args: &[Typed]) -> Result<Module, Fail> {
     let mut globals = Seq::new(alloc);
-    for _ in 0..case.globals {
+    for _ in 0..start.globals {
         globals.push(Bytes::new(alloc))?;
     }
     let mut items = Seq::new(alloc);
-    items.push(Item::Func(func_of(alloc, case)?))?;
+    items.push(Item::Func(func_of(alloc, start.noalias, lines, args)?))?;
     Ok(Module {
         items,
         globals,
@@ -272,87 +277,85 @@ fn module_of(alloc: Global, case: &Case<'_>) -> Result<Module, Fail> {
     })
 }
 
-fn expected_of(alloc: Global, expected: Expected<'_>) -> Result<Outcome, Fail> {
+/// The outcome of a function on arguments and objects.
+fn outcome(
+    alloc: Global,
+    start: Start,
+    lines: &[Line],
+    args: &[Typed],
+    objects: &[Bytes8],
+) -> Result<Outcome, Fail> {
+    let made = module_of(alloc, start, lines, args)?;
+    let args = values_of(alloc, args)?;
+    let memory = memory_of(alloc, objects)?;
+    Ok(run(alloc, &made, 0, &args, memory, start.bound)?)
+}
+
+/// Whether an outcome is a return of a value, or of none, that leaves objects.
+fn returned(
+    alloc: Global,
+    outcome: &Outcome,
+    typed: Option<Typed>,
+    objects: &[Bytes8],
+) -> Result<bool, Fail> {
+    let value = match typed {
+        Some(typed) => Some(value_of(alloc, typed)?),
+        None => None,
+    };
+    let memory = memory_of(alloc, objects)?;
+    Ok(outcome.equal(&Outcome::Returned { value, memory }))
+}
+
+/// Whether an outcome is a run that was cut and left objects.
+fn is_cut(alloc: Global, outcome: &Outcome, objects: &[Bytes8]) -> Result<bool, Fail> {
+    let memory = memory_of(alloc, objects)?;
+    Ok(outcome.equal(&Outcome::Cut { memory }))
+}
+
+fn is_undefined(outcome: &Outcome) -> bool {
+    matches!(outcome, Outcome::Undefined)
+}
+
+/// Whether a function of one operation on its arguments gives a value and leaves the objects, or is undefined where no value is expected.
+fn gives_in(
+    alloc: Global,
+    objects: &[Bytes8],
+    form: Form,
+    args: &[Typed],
+    ty: Ty,
+    expected: Option<Typed>,
+) -> Result<bool, Fail> {
+    let all = match args {
+        [] => [Arg::Absent; 3],
+        [_] => [Arg::Val(0), Arg::Absent, Arg::Absent],
+        [_, _] => [Arg::Val(0), Arg::Val(1), Arg::Absent],
+        _ => [Arg::Val(0), Arg::Val(1), Arg::Val(2)],
+    };
+    let result = [
+        Arg::Val((args.len() % 256) as u32),
+        Arg::Absent,
+        Arg::Absent,
+    ];
+    let end = outcome(
+        alloc,
+        ONCE,
+        &[Line(ty, form, all), Line(Ty::Void, Form::Ret, result)],
+        args,
+        objects,
+    )?;
     match expected {
-        Expected::Undefined => Ok(Outcome::Undefined),
-        Expected::Cut(objects) => Ok(Outcome::Cut {
-            memory: memory_of(alloc, objects)?,
-        }),
-        Expected::Returned(None, objects) => Ok(Outcome::Returned {
-            value: None,
-            memory: memory_of(alloc, objects)?,
-        }),
-        Expected::Returned(Some(typed), objects) => {
-            let value = Some(value_of(alloc, typed)?);
-            Ok(Outcome::Returned {
-                value,
-                memory: memory_of(alloc, objects)?,
-            })
-        }
+        Some(_) => returned(alloc, &end, expected, objects),
+        None => Ok(is_undefined(&end)),
     }
 }
 
-/// The outcome of a case.
-fn outcome_of(alloc: Global, case: &Case<'_>) -> Result<Outcome, Fail> {
-    let made = module_of(alloc, case)?;
-    let args = values_of(alloc, case.args)?;
-    Ok(run(
-        alloc,
-        &made,
-        0,
-        &args,
-        memory_of(alloc, case.objects)?,
-        case.bound,
-    )?)
-}
-
-/// Whether a run ends as it is to end.
-fn holds(alloc: Global, case: Case<'_>) -> Result<bool, Fail> {
-    let outcome = outcome_of(alloc, &case)?;
-    Ok(outcome.equal(&expected_of(alloc, case.expected)?))
-}
-
-/// Whether a function of one operation on its arguments, which returns its result, gives what is expected in a memory.
-fn gives_in(
-    alloc: Global,
-    objects: &[&[Option<u8>]],
-    form: Form<'_>,
-    args: &[Typed<'_>],
-    ty: Ty,
-    expected: Expected<'_>,
-) -> Result<bool, Fail> {
-    let all = [Arg::Val(0), Arg::Val(1), Arg::Val(2)];
-    let count = args.len().min(3);
-    let result = [Arg::Val(count as u32)];
-    let lines = [
-        op_on(ty, form, &all[..count]),
-        op_on(Ty::Void, Form::Ret, &result),
-    ];
-    holds(
-        alloc,
-        Case {
-            globals: 0,
-            noalias: &[],
-            blocks: &[&lines],
-            args,
-            objects,
-            bound: 1,
-            expected,
-        },
-    )
-}
-
-/// Whether a function of one operation gives a value, or is undefined where none is expected.
+/// The same without an object.
 fn gives(
     alloc: Global,
-    form: Form<'_>,
-    args: &[Typed<'_>],
+    form: Form,
+    args: &[Typed],
     ty: Ty,
-    expected: Option<Typed<'_>>,
+    expected: Option<Typed>,
 ) -> Result<bool, Fail> {
-    let end = match expected {
-        Some(_) => Expected::Returned(expected, &[]),
-        None => Expected::Undefined,
-    };
-    gives_in(alloc, &[], form, args, ty, end)
+    gives_in(alloc, &[], form, args, ty, expected)
 }

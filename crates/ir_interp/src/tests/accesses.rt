@@ -1,6 +1,9 @@
 //! Addresses, loads, stores and allocas.
 
-use super::{Arg, Case, Expected, Form, Typed, gives, gives_in, holds, op_on, ty_of};
+use super::{
+    Arg, Bytes8, Form, Line, ONCE, Start, Typed, gives, gives_in, is_undefined, outcome, returned,
+    ty_of,
+};
 use ir_types::{Elem, Ty};
 use std::alloc::Global;
 use std::test::Fail;
@@ -14,29 +17,27 @@ fn address_is(
     alloc: Global,
     elem: Elem,
     inbounds: bool,
-    args: &[Typed<'_>],
+    args: &[Typed],
     expected: Option<(u32, i64)>,
 ) -> Result<bool, Fail> {
-    let object = [Some(0); 8];
-    let objects: [&[Option<u8>]; 1] = [&object];
-    let end = Expected::Returned(Some(Typed::Ptr(expected)), &objects);
+    let objects = [Bytes8(8, [Some(0); 8])];
     gives_in(
         alloc,
         &objects,
         Form::Gep(elem, inbounds),
         args,
         Ty::Ptr,
-        end,
+        Some(Typed::Ptr(expected)),
     )
 }
 
 /// A pointer into the first object.
-fn at(offset: i64) -> Typed<'static> {
+fn at(offset: i64) -> Typed {
     Typed::Ptr(Some((0, offset)))
 }
 
 /// An index of 8 bits.
-fn byte(index: u64) -> Typed<'static> {
+fn byte(index: u64) -> Typed {
     Typed::Int(8, Some(index))
 }
 
@@ -56,14 +57,7 @@ fn addresses(rt: HostRuntime) -> Result<(), Fail> {
         )?
     );
     assert!(rt; address_is(alloc, BYTES, false, &[at(0), Typed::Int(64, None)], None)?);
-    assert!(rt; address_is(alloc, BYTES, false, &[Typed::Ptr(None), byte(0)], None)?);
-    Ok(())
-}
-
-#[test]
-fn addresses_wrap(rt: HostRuntime) -> Result<(), Fail> {
-    let alloc = rt.alloc();
-    // past the greatest offset comes the least
+    // past the greatest offset comes the least, and a size of 2^64 leads back
     assert!(rt;
         address_is(
             alloc,
@@ -73,9 +67,15 @@ fn addresses_wrap(rt: HostRuntime) -> Result<(), Fail> {
             Some((0, i64::MIN))
         )?
     );
-    // a size of 2^64 leads back
-    let vast = Elem::Array { n: 1 << 62, w: 32 };
-    assert!(rt; address_is(alloc, vast, false, &[at(4), byte(1)], Some((0, 4)))?);
+    assert!(rt;
+        address_is(
+            alloc,
+            Elem::Array { n: 1 << 62, w: 32 },
+            false,
+            &[at(4), byte(1)],
+            Some((0, 4))
+        )?
+    );
     Ok(())
 }
 
@@ -97,15 +97,29 @@ fn load_gives(
     ty: Ty,
     align: u64,
     offset: i64,
-    expected: Option<Typed<'_>>,
+    expected: Option<Typed>,
 ) -> Result<bool, Fail> {
-    let object = [Some(2), Some(1), Some(0), Some(0), Some(7), None];
-    let objects: [&[Option<u8>]; 1] = [&object];
-    let end = match expected {
-        Some(_) => Expected::Returned(expected, &objects),
-        None => Expected::Undefined,
-    };
-    gives_in(alloc, &objects, Form::Load(align), &[at(offset)], ty, end)
+    let objects = [Bytes8(
+        6,
+        [
+            Some(2),
+            Some(1),
+            Some(0),
+            Some(0),
+            Some(7),
+            None,
+            None,
+            None,
+        ],
+    )];
+    gives_in(
+        alloc,
+        &objects,
+        Form::Load(align),
+        &[at(offset)],
+        ty,
+        expected,
+    )
 }
 
 #[test]
@@ -115,83 +129,62 @@ fn loads(rt: HostRuntime) -> Result<(), Fail> {
     assert!(rt; load_gives(alloc, Ty::Int(32), 4, 0, Some(Typed::Int(32, Some(258))))?);
     assert!(rt; load_gives(alloc, Ty::Int(16), 2, 4, Some(Typed::Int(16, None)))?);
     // one poison byte makes its lane poison, and no other
-    let lanes = [Some(0), Some(0), Some(7), None];
-    assert!(rt;
-        load_gives(
-            alloc,
-            Ty::Row { n: 4, w: 8 },
-            2,
-            2,
-            Some(Typed::Row(8, &lanes))
-        )?
-    );
-    Ok(())
-}
-
-#[test]
-fn loads_that_are_undefined(rt: HostRuntime) -> Result<(), Fail> {
-    let alloc = rt.alloc();
-    // past the end, before the start, misaligned
+    let lanes = Typed::Row(8, 4, [Some(0), Some(0), Some(7), None]);
+    assert!(rt; load_gives(alloc, ty_of(lanes), 2, 2, Some(lanes))?);
+    // past the end, before the start, misaligned, no object
     assert!(rt; load_gives(alloc, Ty::Int(16), 1, 5, None)?);
     assert!(rt; load_gives(alloc, Ty::Int(8), 1, -1, None)?);
     assert!(rt; load_gives(alloc, Ty::Int(16), 2, 1, None)?);
-    // no object, no pointer
     assert!(rt; gives(alloc, Form::Load(1), &[at(0)], Ty::Int(8), None)?);
-    assert!(rt; gives(alloc, Form::Load(1), &[Typed::Ptr(None)], Ty::Int(8), None)?);
     Ok(())
 }
 
-/// Whether a store of a value in an object of four bytes leaves an object, or is undefined where none is expected.
+/// Whether a store of a value in an object of four bytes leaves bytes, or is undefined where none are expected.
 fn store_leaves(
     alloc: Global,
     align: u64,
-    value: Typed<'_>,
-    pointer: Typed<'_>,
-    expected: Option<&[Option<u8>]>,
+    value: Typed,
+    pointer: Typed,
+    expected: Option<[Option<u8>; 8]>,
 ) -> Result<bool, Fail> {
-    let object = [Some(1); 4];
-    let objects: [&[Option<u8>]; 1] = [&object];
-    let args = [Arg::Val(0), Arg::Val(1)];
     let lines = [
-        op_on(ty_of(value), Form::Store(align), &args),
-        op_on(Ty::Void, Form::Ret, &[]),
+        Line(
+            ty_of(value),
+            Form::Store(align),
+            [Arg::Val(0), Arg::Val(1), Arg::Absent],
+        ),
+        Line(Ty::Void, Form::Ret, [Arg::Absent; 3]),
     ];
-    let left = [expected.unwrap_or(&[])];
-    let end = match expected {
-        Some(_) => Expected::Returned(None, &left),
-        None => Expected::Undefined,
-    };
-    holds(
+    let end = outcome(
         alloc,
-        Case {
-            globals: 0,
-            noalias: &[],
-            blocks: &[&lines],
-            args: &[value, pointer],
-            objects: &objects,
-            bound: 1,
-            expected: end,
-        },
-    )
+        ONCE,
+        &lines,
+        &[value, pointer],
+        &[Bytes8(4, [Some(1); 8])],
+    )?;
+    match expected {
+        Some(bytes) => returned(alloc, &end, None, &[Bytes8(4, bytes)]),
+        None => Ok(is_undefined(&end)),
+    }
 }
 
 #[test]
 fn stores(rt: HostRuntime) -> Result<(), Fail> {
     let alloc = rt.alloc();
     let number = Typed::Int(16, Some(258));
+    let written = [Some(1), Some(2), Some(1), Some(1), None, None, None, None];
+    assert!(rt; store_leaves(alloc, 1, number, at(1), Some(written))?);
+    // a poison lane makes its bytes poison
+    let poisoned = [None, None, Some(6), Some(0), None, None, None, None];
     assert!(rt;
         store_leaves(
             alloc,
-            1,
-            number,
-            at(1),
-            Some(&[Some(1), Some(2), Some(1), Some(1)])
+            4,
+            Typed::Row(16, 2, [None, Some(6), None, None]),
+            at(0),
+            Some(poisoned)
         )?
     );
-    // a poison lane makes its bytes poison
-    let lanes = [None, Some(6)];
-    let left = [None, None, Some(6), Some(0)];
-    assert!(rt; store_leaves(alloc, 4, Typed::Row(16, &lanes), at(0), Some(&left))?);
     assert!(rt; store_leaves(alloc, 1, number, at(3), None)?);
     assert!(rt; store_leaves(alloc, 2, number, at(1), None)?);
     assert!(rt; store_leaves(alloc, 1, number, Typed::Ptr(None), None)?);
@@ -200,33 +193,48 @@ fn stores(rt: HostRuntime) -> Result<(), Fail> {
 
 #[test]
 fn an_alloca_is_the_last_object(rt: HostRuntime) -> Result<(), Fail> {
-    let object = [Some(5)];
-    let made = [None, None];
-    let end = Expected::Returned(Some(Typed::Ptr(Some((1, 0)))), &[&object, &made]);
-    let two_bytes = Form::Alloca(Elem::One(Ty::Int(16)));
-    assert!(rt; gives_in(rt.alloc(), &[&object], two_bytes, &[], Ty::Ptr, end)?);
+    let lines = [
+        Line(
+            Ty::Ptr,
+            Form::Alloca(Elem::One(Ty::Int(16))),
+            [Arg::Absent; 3],
+        ),
+        Line(Ty::Void, Form::Ret, [Arg::Val(0), Arg::Absent, Arg::Absent]),
+    ];
+    let end = outcome(rt.alloc(), ONCE, &lines, &[], &[Bytes8(1, [Some(5); 8])])?;
+    let objects = [Bytes8(1, [Some(5); 8]), Bytes8(2, [None; 8])];
+    assert!(rt; returned(rt.alloc(), &end, Some(Typed::Ptr(Some((1, 0)))), &objects)?);
     Ok(())
 }
 
 #[test]
 fn globals_are_the_first_objects(rt: HostRuntime) -> Result<(), Fail> {
-    let args = [Arg::Lit(8, 7), Arg::Sym(1)];
     let lines = [
-        op_on(Ty::Int(8), Form::Store(1), &args),
-        op_on(Ty::Void, Form::Ret, &[]),
+        Line(
+            Ty::Int(8),
+            Form::Store(1),
+            [Arg::Lit(8, 7), Arg::Sym(1), Arg::Absent],
+        ),
+        Line(Ty::Void, Form::Ret, [Arg::Absent; 3]),
     ];
+    let start = Start {
+        globals: 2,
+        noalias: false,
+        bound: 1,
+    };
+    let end = outcome(
+        rt.alloc(),
+        start,
+        &lines,
+        &[],
+        &[Bytes8(1, [Some(1); 8]), Bytes8(1, [Some(1); 8])],
+    )?;
     assert!(rt;
-        holds(
+        returned(
             rt.alloc(),
-            Case {
-                globals: 2,
-                noalias: &[],
-                blocks: &[&lines],
-                args: &[],
-                objects: &[&[Some(1)], &[Some(1)]],
-                bound: 1,
-                expected: Expected::Returned(None, &[&[Some(1)], &[Some(7)]]),
-            }
+            &end,
+            None,
+            &[Bytes8(1, [Some(1); 8]), Bytes8(1, [Some(7); 8])]
         )?
     );
     Ok(())
