@@ -1,6 +1,7 @@
 //! Runs of small functions, by the table of meanings: what each form gives, where it is poison and where it is undefined.
 //!
-//! Expected values are worked out by hand. The builders here make functions of few instructions; each fails for want of memory alone.
+//! Expected values are worked out by hand. A function is plain data, of which a module is made; that fails for want of memory
+//! alone. Its ids are numbers: the parameters from 0, then the lines in order. A block ends behind each terminator.
 
 mod accesses;
 mod control;
@@ -9,41 +10,80 @@ mod operations;
 use crate::run;
 use ir_model::{Memory, Object, Outcome, Value, Values};
 use ir_types::{
-    Block, Bytes, Func, Id, Inst, Item, Literal, Lits, Module, Op, Opd, Opds, Param, Ty,
+    Block, Blocks, Bytes, Elem, Func, Id, Inst, Insts, Item, Literal, Lits, Module, Numbers, Op,
+    Opd, Opds, Param, Params, Ty,
 };
 use std::alloc::Global;
 use std::test::Fail;
 use vx_list::{Equal, Seq};
-use vx_num::Lane;
+use vx_num::{BinOp, CastOp, Flags, Lane, Pred};
 
 /// A typed value.
 #[derive(Clone, Copy)]
-enum Typed<'a> {
+enum Typed {
     Int(u8, Lane),
-    Row(u8, &'a [Lane]),
+    /// The first so many of these lanes, of a width.
+    Row(u8, u8, [Lane; 4]),
     Ptr(Option<(u32, i64)>),
 }
 
-impl Typed<'_> {
-    fn ty(self) -> Ty {
-        match self {
-            Typed::Int(w, _) => Ty::Int(w),
-            Typed::Row(w, lanes) => Ty::Row {
-                n: (lanes.len() % 256) as u8,
-                w,
-            },
-            Typed::Ptr(_) => Ty::Ptr,
-        }
-    }
+/// An object: the first so many of these bytes.
+#[derive(Clone, Copy)]
+struct Bytes8(usize, [Option<u8>; 8]);
 
-    fn value(self, alloc: Global) -> Result<Value, Fail> {
-        match self {
-            Typed::Int(_, lane) => Ok(Value::Lane(lane)),
-            Typed::Row(_, lanes) => Ok(Value::Row(lits(alloc, lanes)?)),
-            Typed::Ptr(pointer) => Ok(Value::Ptr(pointer)),
-        }
-    }
+/// An operand.
+#[derive(Clone, Copy)]
+enum Arg {
+    Absent,
+    /// A parameter or a line.
+    Val(u32),
+    /// A literal of a width.
+    Lit(u8, u64),
+    /// A global.
+    Sym(u32),
 }
+
+/// An operation.
+#[derive(Clone, Copy)]
+enum Form {
+    Bin(BinOp, Flags),
+    Icmp(Pred),
+    Cast(CastOp, bool),
+    Select,
+    Extract,
+    Insert,
+    Shuffle([Lane; 4]),
+    Gep(Elem, bool),
+    Load(u64),
+    Store(u64),
+    Alloca(Elem),
+    /// From blocks 0 and 1.
+    Phi,
+    Ret,
+    Br(u32),
+    CondBr(u32, u32),
+    /// Case 3 to block 2, others to block 1.
+    Switch,
+    Unreachable,
+}
+
+/// An instruction: its type, its operation, its operands.
+#[derive(Clone, Copy)]
+struct Line(Ty, Form, [Arg; 3]);
+
+/// How a run starts: on so many globals, with a `noalias` first parameter or not, under a bound.
+#[derive(Clone, Copy)]
+struct Start {
+    globals: u32,
+    noalias: bool,
+    bound: u64,
+}
+
+const ONCE: Start = Start {
+    globals: 0,
+    noalias: false,
+    bound: 1,
+};
 
 fn lits(alloc: Global, lanes: &[Lane]) -> Result<Lits, Fail> {
     let mut all = Lits::new(alloc);
@@ -53,177 +93,269 @@ fn lits(alloc: Global, lanes: &[Lane]) -> Result<Lits, Fail> {
     Ok(all)
 }
 
+fn numbers(alloc: Global, items: &[u32]) -> Result<Numbers, Fail> {
+    Ok(Numbers::from_vec(Vec::from_slice(alloc, items)?))
+}
+
+fn ty_of(typed: Typed) -> Ty {
+    match typed {
+        Typed::Int(w, _) => Ty::Int(w),
+        Typed::Row(w, n, _) => Ty::Row { n, w },
+        Typed::Ptr(_) => Ty::Ptr,
+    }
+}
+
+fn value_of(alloc: Global, typed: Typed) -> Result<Value, Fail> {
+    match typed {
+        Typed::Int(_, lane) => Ok(Value::Lane(lane)),
+        Typed::Row(_, n, lanes) => Ok(Value::Row(lits(alloc, &lanes[..usize::from(n).min(4)])?)),
+        Typed::Ptr(pointer) => Ok(Value::Ptr(pointer)),
+    }
+}
+
+fn values_of(alloc: Global, typed: &[Typed]) -> Result<Values, Fail> {
+    let mut all = Values::new(alloc);
+    for one in typed {
+        all.push(value_of(alloc, *one)?)?;
+    }
+    Ok(all)
+}
+
+fn object_of(alloc: Global, object: Bytes8) -> Result<Object, Fail> {
+    let mut bytes = Object::new(alloc);
+    for byte in &object.1[..object.0.min(8)] {
+        bytes.push(*byte)?;
+    }
+    Ok(bytes)
+}
+
+fn memory_of(alloc: Global, objects: &[Bytes8]) -> Result<Memory, Fail> {
+    let mut all = Memory::new(alloc);
+    for object in objects {
+        all.push(object_of(alloc, *object)?)?;
+    }
+    Ok(all)
+}
+
 fn id(k: u32) -> Id {
     Id { region: 0, k }
 }
 
-/// The operand that an id is.
-fn val(k: u32) -> Opd {
-    Opd::Val(id(k))
-}
-
-/// A literal of a lane.
-fn number(alloc: Global, w: u8, n: u64) -> Result<Opd, Fail> {
+fn literal_of(alloc: Global, w: u8, n: u64) -> Result<Opd, Fail> {
     Ok(Opd::Lit(Literal {
         ty: Ty::Int(w),
         lanes: lits(alloc, &[Some(n)])?,
     }))
 }
 
-fn inst(alloc: Global, k: u32, ty: Ty, op: Op, operands: Vec<Opd>) -> Result<Inst, Fail> {
-    let mut opds = Opds::new(alloc);
-    for opd in operands {
-        opds.push(opd)?;
+fn opds_of(alloc: Global, args: [Arg; 3]) -> Result<Opds, Fail> {
+    let mut all = Opds::new(alloc);
+    for arg in &args {
+        match *arg {
+            Arg::Absent => {}
+            Arg::Val(k) => all.push(Opd::Val(id(k)))?,
+            Arg::Lit(w, n) => all.push(literal_of(alloc, w, n)?)?,
+            Arg::Sym(global) => all.push(Opd::Sym(global))?,
+        }
     }
-    Ok(Inst {
-        id: id(k),
-        name: None,
-        ty,
-        op,
-        opds,
+    Ok(all)
+}
+
+fn switch_of(alloc: Global) -> Result<Op, Fail> {
+    let cases = lits(alloc, &[None, Some(3), Some(3)])?;
+    let to = numbers(alloc, &[1, 2, 1])?;
+    Ok(Op::Switch {
+        other: 1,
+        cases,
+        to,
     })
 }
 
-fn block(insts: Vec<Inst>) -> Block {
-    Block {
-        name: None,
-        insts: Seq::from_vec(insts),
+fn op_of(alloc: Global, form: Form) -> Result<Op, Fail> {
+    match form {
+        Form::Bin(op, flags) => Ok(Op::Bin { op, flags }),
+        Form::Icmp(pred) => Ok(Op::Icmp { pred }),
+        Form::Cast(op, nneg) => Ok(Op::Cast { op, nneg }),
+        Form::Select => Ok(Op::Select),
+        Form::Extract => Ok(Op::Extract),
+        Form::Insert => Ok(Op::Insert),
+        Form::Shuffle(mask) => Ok(Op::Shuffle {
+            mask: lits(alloc, &mask)?,
+        }),
+        Form::Gep(elem, inbounds) => Ok(Op::Gep { elem, inbounds }),
+        Form::Load(align) => Ok(Op::Load { align }),
+        Form::Store(align) => Ok(Op::Store { align }),
+        Form::Alloca(elem) => Ok(Op::Alloca { elem, align: None }),
+        Form::Phi => Ok(Op::Phi {
+            blocks: numbers(alloc, &[0, 1])?,
+        }),
+        Form::Ret => Ok(Op::Ret),
+        Form::Br(to) => Ok(Op::Br { to }),
+        Form::CondBr(yes, no) => Ok(Op::CondBr { yes, no }),
+        Form::Switch => switch_of(alloc),
+        Form::Unreachable => Ok(Op::Unreachable),
     }
 }
 
-fn param(alloc: Global, k: u32, ty: Ty, noalias: bool) -> Param {
-    Param {
+fn inst_of(alloc: Global, k: u32, line: Line) -> Result<Inst, Fail> {
+    let op = op_of(alloc, line.1)?;
+    Ok(Inst {
         id: id(k),
         name: None,
-        ty,
-        attrs: Bytes::new(alloc),
-        noalias,
-    }
+        ty: line.0,
+        op,
+        opds: opds_of(alloc, line.2)?,
+    })
 }
 
-/// A module of so many globals and one function.
-fn module(
-    alloc: Global,
-    globals: u32,
-    params: Vec<Param>,
-    blocks: Vec<Block>,
-) -> Result<Module, Fail> {
-    let mut names = Vec::new(alloc);
-    for _ in 0..globals {
-        names.push(Bytes::new(alloc))?;
+fn ends(form: Form) -> bool {
+    matches!(
+        form,
+        Form::Ret | Form::Br(_) | Form::CondBr(_, _) | Form::Switch | Form::Unreachable
+    )
+}
+
+/// The blocks of lines whose ids begin with a number.
+fn blocks_of(alloc: Global, first: u32, lines: &[Line]) -> Result<Blocks, Fail> {
+    let mut blocks = Blocks::new(alloc);
+    let mut insts = Insts::new(alloc);
+    let mut k = first;
+    for line in lines {
+        insts.push(inst_of(alloc, k, *line)?)?;
+        k = k.wrapping_add(1);
+        if ends(line.1) {
+            let done = std::mem::replace(&mut insts, Insts::new(alloc));
+            blocks.push(Block {
+                name: None,
+                insts: done,
+            })?;
+        }
     }
-    let func = Func {
+    Ok(blocks)
+}
+
+/// Parameters of the types of arguments, of which the first may be `noalias`.
+fn params_of(alloc: Global, args: &[Typed], noalias: bool) -> Result<Params, Fail> {
+    let mut all = Params::new(alloc);
+    let mut k = 0u32;
+    for arg in args {
+        all.push(Param {
+            id: id(k),
+            name: None,
+            ty: ty_of(*arg),
+            attrs: Bytes::new(alloc),
+            noalias: noalias && k == 0,
+        })?;
+        k = k.wrapping_add(1);
+    }
+    Ok(all)
+}
+
+fn func_of(alloc: Global, noalias: bool, lines: &[Line], args: &[Typed]) -> Result<Func, Fail> {
+    let params = params_of(alloc, args, noalias)?;
+    Ok(Func {
         before: Bytes::new(alloc),
         ret: Ty::Void,
         name: Bytes::new(alloc),
-        params: Seq::from_vec(params),
+        params,
         after: Bytes::new(alloc),
-        blocks: Seq::from_vec(blocks),
-    };
+        blocks: blocks_of(alloc, (args.len() % 256) as u32, lines)?,
+    })
+}
+
+fn module_of(alloc: Global, start: Start, lines: &[Line], args: &[Typed]) -> Result<Module, Fail> {
+    let mut globals = Seq::new(alloc);
+    for _ in 0..start.globals {
+        globals.push(Bytes::new(alloc))?;
+    }
+    let mut items = Seq::new(alloc);
+    items.push(Item::Func(func_of(alloc, start.noalias, lines, args)?))?;
     Ok(Module {
-        items: Seq::from_vec(vec![in alloc; Item::Func(func)]?),
-        globals: Seq::from_vec(names),
+        items,
+        globals,
         big_endian_line: None,
     })
 }
 
-fn values(alloc: Global, typed: &[Typed<'_>]) -> Result<Values, Fail> {
-    let mut all = Values::new(alloc);
-    for one in typed {
-        all.push(one.value(alloc)?)?;
-    }
-    Ok(all)
-}
-
-/// A memory of objects of bytes.
-fn memory(alloc: Global, objects: &[&[Option<u8>]]) -> Result<Memory, Fail> {
-    let mut all = Memory::new(alloc);
-    for object in objects {
-        all.push(Object::from_vec(Vec::from_slice(alloc, *object)?))?;
-    }
-    Ok(all)
-}
-
-/// The outcome of the function of one operation on its parameters, which returns its result.
-fn run_one(
+/// The outcome of a function on arguments and objects.
+fn outcome(
     alloc: Global,
-    op: Op,
-    ty: Ty,
-    args: &[Typed<'_>],
-    objects: &[&[Option<u8>]],
+    start: Start,
+    lines: &[Line],
+    args: &[Typed],
+    objects: &[Bytes8],
 ) -> Result<Outcome, Fail> {
-    let mut params = Vec::new(alloc);
-    let mut opds = Vec::new(alloc);
-    let mut k = 1;
-    for arg in args {
-        params.push(param(alloc, k, arg.ty(), false))?;
-        opds.push(val(k))?;
-        k = k.wrapping_add(1);
-    }
-    let insts = vec![in alloc;
-        inst(alloc, 0, ty, op, opds)?,
-        inst(alloc, k, Ty::Void, Op::Ret, vec![in alloc; val(0)]?)?,
-    ]?;
-    let made = module(alloc, 0, params, vec![in alloc; block(insts)]?)?;
-    Ok(run(
-        alloc,
-        &made,
-        0,
-        &values(alloc, args)?,
-        memory(alloc, objects)?,
-        1,
-    )?)
+    let made = module_of(alloc, start, lines, args)?;
+    let args = values_of(alloc, args)?;
+    let memory = memory_of(alloc, objects)?;
+    Ok(run(alloc, &made, 0, &args, memory, start.bound)?)
 }
 
-/// Whether the function of one operation gives a value, or is undefined where none is expected.
-fn gives(
-    alloc: Global,
-    op: Op,
-    args: &[Typed<'_>],
-    ty: Ty,
-    expected: Option<Typed<'_>>,
-) -> Result<bool, Fail> {
-    let outcome = run_one(alloc, op, ty, args, &[])?;
-    is_value(alloc, &outcome, expected)
-}
-
-/// Whether an outcome is a value, or undefined where none is expected.
-fn is_value(alloc: Global, outcome: &Outcome, expected: Option<Typed<'_>>) -> Result<bool, Fail> {
-    match (outcome, expected) {
-        (
-            Outcome::Returned {
-                value: Some(value),
-                ..
-            },
-            Some(typed),
-        ) => Ok(value.equal(&typed.value(alloc)?)),
-        (Outcome::Undefined, None) => Ok(true),
-        _ => Ok(false),
-    }
-}
-
-/// Whether an outcome has a value, or none, and leaves these objects.
-fn returns(
+/// Whether an outcome is a return of a value, or of none, that leaves objects.
+fn returned(
     alloc: Global,
     outcome: &Outcome,
-    expected: Option<Typed<'_>>,
-    objects: &[&[Option<u8>]],
+    typed: Option<Typed>,
+    objects: &[Bytes8],
 ) -> Result<bool, Fail> {
-    let value = match expected {
-        Some(typed) => Some(typed.value(alloc)?),
+    let value = match typed {
+        Some(typed) => Some(value_of(alloc, typed)?),
         None => None,
     };
-    let returned = Outcome::Returned {
-        value,
-        memory: memory(alloc, objects)?,
-    };
-    Ok(outcome.equal(&returned))
+    let memory = memory_of(alloc, objects)?;
+    Ok(outcome.equal(&Outcome::Returned { value, memory }))
 }
 
-/// Whether an outcome is a run that was cut, and left these objects.
-fn is_cut(alloc: Global, outcome: &Outcome, objects: &[&[Option<u8>]]) -> Result<bool, Fail> {
-    let cut = Outcome::Cut {
-        memory: memory(alloc, objects)?,
+/// Whether an outcome is a run that was cut and left objects.
+fn is_cut(alloc: Global, outcome: &Outcome, objects: &[Bytes8]) -> Result<bool, Fail> {
+    let memory = memory_of(alloc, objects)?;
+    Ok(outcome.equal(&Outcome::Cut { memory }))
+}
+
+fn is_undefined(outcome: &Outcome) -> bool {
+    matches!(outcome, Outcome::Undefined)
+}
+
+/// Whether a function of one operation on its arguments gives a value and leaves the objects, or is undefined where no value is expected.
+fn gives_in(
+    alloc: Global,
+    objects: &[Bytes8],
+    form: Form,
+    args: &[Typed],
+    ty: Ty,
+    expected: Option<Typed>,
+) -> Result<bool, Fail> {
+    let all = match args {
+        [] => [Arg::Absent; 3],
+        [_] => [Arg::Val(0), Arg::Absent, Arg::Absent],
+        [_, _] => [Arg::Val(0), Arg::Val(1), Arg::Absent],
+        _ => [Arg::Val(0), Arg::Val(1), Arg::Val(2)],
     };
-    Ok(outcome.equal(&cut))
+    let result = [
+        Arg::Val((args.len() % 256) as u32),
+        Arg::Absent,
+        Arg::Absent,
+    ];
+    let end = outcome(
+        alloc,
+        ONCE,
+        &[Line(ty, form, all), Line(Ty::Void, Form::Ret, result)],
+        args,
+        objects,
+    )?;
+    match expected {
+        Some(_) => returned(alloc, &end, expected, objects),
+        None => Ok(is_undefined(&end)),
+    }
+}
+
+/// The same without an object.
+fn gives(
+    alloc: Global,
+    form: Form,
+    args: &[Typed],
+    ty: Ty,
+    expected: Option<Typed>,
+) -> Result<bool, Fail> {
+    gives_in(alloc, &[], form, args, ty, expected)
 }

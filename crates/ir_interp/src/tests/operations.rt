@@ -1,7 +1,7 @@
 //! Operations on values: arithmetic, comparisons, conversions, choices, lanes of vectors.
 
-use super::{Typed, gives, lits};
-use ir_types::{Op, Ty};
+use super::{Form, Typed, gives, ty_of};
+use ir_types::Ty;
 use std::alloc::Global;
 use std::test::Fail;
 use vx_num::{BinOp, CastOp, Flags, Lane, Pred};
@@ -105,7 +105,7 @@ fn bin_gives(alloc: Global, case: (BinOp, Flags, Lane, Lane, Option<Lane>)) -> R
     };
     gives(
         alloc,
-        Op::Bin { op, flags },
+        Form::Bin(op, flags),
         &[Typed::Int(8, a), Typed::Int(8, b)],
         Ty::Int(8),
         expected,
@@ -121,19 +121,23 @@ fn arithmetic(rt: HostRuntime) -> Result<(), Fail> {
     Ok(())
 }
 
-/// Whether a binary operation on two lanes of 32 bits gives what is expected.
+/// A vector of two lanes.
+fn row(w: u8, first: Lane, second: Lane) -> Typed {
+    Typed::Row(w, 2, [first, second, None, None])
+}
+
+/// Whether a binary operation on two vectors of 32 bits gives what is expected.
 fn rows_give(
     alloc: Global,
     op: BinOp,
-    left: &[Lane],
-    right: &[Lane],
-    expected: Option<Typed<'_>>,
+    left: Typed,
+    right: Typed,
+    expected: Option<Typed>,
 ) -> Result<bool, Fail> {
-    let args = [Typed::Row(32, left), Typed::Row(32, right)];
     gives(
         alloc,
-        Op::Bin { op, flags: PLAIN },
-        &args,
+        Form::Bin(op, PLAIN),
+        &[left, right],
         Ty::Row { n: 2, w: 32 },
         expected,
     )
@@ -142,39 +146,45 @@ fn rows_give(
 #[test]
 fn lane_by_lane(rt: HostRuntime) -> Result<(), Fail> {
     let alloc = rt.alloc();
-    let six_and_eight = [Some(6), Some(8)];
-    let quotients = [Some(2), Some(4)];
+    let dividend = row(32, Some(6), Some(8));
     assert!(rt;
         rows_give(
             alloc,
             BinOp::Udiv,
-            &six_and_eight,
-            &[Some(3), Some(2)],
-            Some(Typed::Row(32, &quotients))
+            dividend,
+            row(32, Some(3), Some(2)),
+            Some(row(32, Some(2), Some(4)))
         )?
     );
     assert!(rt;
         rows_give(
             alloc,
             BinOp::Udiv,
-            &six_and_eight,
-            &[Some(3), Some(0)],
+            dividend,
+            row(32, Some(3), Some(0)),
             None
         )?
     );
     // a poison lane stays in its place
-    let sum = [None, Some(9)];
     assert!(rt;
         rows_give(
             alloc,
             BinOp::Add,
-            &[None, Some(8)],
-            &[Some(1), Some(1)],
-            Some(Typed::Row(32, &sum))
+            row(32, None, Some(8)),
+            row(32, Some(1), Some(1)),
+            Some(row(32, None, Some(9)))
         )?
     );
     // vectors of other lengths do not fit
-    assert!(rt; rows_give(alloc, BinOp::Add, &six_and_eight, &[Some(1)], None)?);
+    assert!(rt;
+        rows_give(
+            alloc,
+            BinOp::Add,
+            dividend,
+            Typed::Row(32, 1, [Some(1); 4]),
+            None
+        )?
+    );
     Ok(())
 }
 
@@ -197,7 +207,7 @@ fn cmp_gives(alloc: Global, pred: Pred, a: Lane, expected: Lane) -> Result<bool,
     let args = [Typed::Int(8, a), Typed::Int(8, Some(1))];
     gives(
         alloc,
-        Op::Icmp { pred },
+        Form::Icmp(pred),
         &args,
         Ty::Int(1),
         Some(Typed::Int(1, expected)),
@@ -239,7 +249,7 @@ fn cast_gives(alloc: Global, case: (CastOp, bool, u8, Lane, u8, Lane)) -> Result
     let (op, nneg, from, a, to, expected) = case;
     gives(
         alloc,
-        Op::Cast { op, nneg },
+        Form::Cast(op, nneg),
         &[Typed::Int(from, a)],
         Ty::Int(to),
         Some(Typed::Int(to, expected)),
@@ -257,16 +267,16 @@ fn conversions(rt: HostRuntime) -> Result<(), Fail> {
 /// Whether a choice by a condition gives what is expected.
 fn select_gives(
     alloc: Global,
-    condition: Typed<'_>,
-    left: Typed<'_>,
-    right: Typed<'_>,
-    expected: Typed<'_>,
+    condition: Typed,
+    left: Typed,
+    right: Typed,
+    expected: Typed,
 ) -> Result<bool, Fail> {
     gives(
         alloc,
-        Op::Select,
+        Form::Select,
         &[condition, left, right],
-        left.ty(),
+        ty_of(left),
         Some(expected),
     )
 }
@@ -276,79 +286,58 @@ fn choices(rt: HostRuntime) -> Result<(), Fail> {
     let alloc = rt.alloc();
     let seven = Typed::Int(8, Some(7));
     let poison = Typed::Int(8, None);
-    let (yes, no) = (Typed::Int(1, Some(1)), Typed::Int(1, Some(0)));
     // the arm that is not chosen is ignored
-    assert!(rt; select_gives(alloc, yes, seven, poison, seven)?);
-    assert!(rt; select_gives(alloc, no, poison, seven, seven)?);
+    assert!(rt; select_gives(alloc, Typed::Int(1, Some(1)), seven, poison, seven)?);
+    assert!(rt; select_gives(alloc, Typed::Int(1, Some(0)), poison, seven, seven)?);
     assert!(rt; select_gives(alloc, Typed::Int(1, None), seven, seven, poison)?);
-    let (here, there) = (Typed::Ptr(Some((0, 4))), Typed::Ptr(None));
-    assert!(rt; select_gives(alloc, yes, here, there, here)?);
-    let (low, high) = ([Some(1), Some(2)], [Some(3), Some(4)]);
-    let mixed = [Some(3), None];
-    let by_lane = Typed::Row(1, &[Some(0), None]);
+    let here = Typed::Ptr(Some((0, 4)));
+    assert!(rt; select_gives(alloc, Typed::Int(1, Some(1)), here, Typed::Ptr(None), here)?);
+    let (low, high) = (row(8, Some(1), Some(2)), row(8, Some(3), Some(4)));
     assert!(rt;
         select_gives(
             alloc,
-            by_lane,
-            Typed::Row(8, &low),
-            Typed::Row(8, &high),
-            Typed::Row(8, &mixed)
+            row(1, Some(0), None),
+            low,
+            high,
+            row(8, Some(3), None)
         )?
     );
-    let none = [None, None];
-    assert!(rt;
-        select_gives(
-            alloc,
-            Typed::Int(1, None),
-            Typed::Row(8, &low),
-            Typed::Row(8, &low),
-            Typed::Row(8, &none)
-        )?
-    );
+    assert!(rt; select_gives(alloc, Typed::Int(1, None), low, low, row(8, None, None))?);
     Ok(())
 }
 
-/// Whether lanes at an index, and lanes with 7 put there, are what is expected.
-fn lanes_at(alloc: Global, index: Lane, taken: Lane, put: &[Lane]) -> Result<bool, Fail> {
-    let lanes = [Some(1), None];
-    let row = Typed::Row(8, &lanes);
+/// Whether of the lanes 1 and poison that at an index, and both with 7 put there, are what is expected.
+fn lanes_at(alloc: Global, index: Lane, taken: Lane, put: Typed) -> Result<bool, Fail> {
+    let lanes = row(8, Some(1), None);
     let at = Typed::Int(64, index);
-    Ok(
-        gives(
-            alloc,
-            Op::Extract,
-            &[row, at],
-            Ty::Int(8),
-            Some(Typed::Int(8, taken)),
-        )? && gives(
-            alloc,
-            Op::Insert,
-            &[row, Typed::Int(8, Some(7)), at],
-            row.ty(),
-            Some(Typed::Row(8, put)),
-        )?,
+    if !gives(
+        alloc,
+        Form::Extract,
+        &[lanes, at],
+        Ty::Int(8),
+        Some(Typed::Int(8, taken)),
+    )? {
+        return Ok(false);
+    }
+    gives(
+        alloc,
+        Form::Insert,
+        &[lanes, Typed::Int(8, Some(7)), at],
+        ty_of(lanes),
+        Some(put),
     )
 }
 
 #[test]
 fn lanes_of_vectors(rt: HostRuntime) -> Result<(), Fail> {
     let alloc = rt.alloc();
-    assert!(rt; lanes_at(alloc, Some(0), Some(1), &[Some(7), None])?);
-    assert!(rt; lanes_at(alloc, Some(1), None, &[Some(1), Some(7)])?);
-    assert!(rt; lanes_at(alloc, Some(2), None, &[None, None])?);
-    assert!(rt; lanes_at(alloc, None, None, &[None, None])?);
-    let (left, right) = ([Some(10), Some(11)], [Some(12), Some(13)]);
-    let mask = lits(alloc, &[Some(3), Some(0), None, Some(1)])?;
-    let all = [Some(13), Some(10), None, Some(11)];
-    let args = [Typed::Row(8, &left), Typed::Row(8, &right)];
-    assert!(rt;
-        gives(
-            alloc,
-            Op::Shuffle { mask },
-            &args,
-            Ty::Row { n: 4, w: 8 },
-            Some(Typed::Row(8, &all))
-        )?
-    );
+    assert!(rt; lanes_at(alloc, Some(0), Some(1), row(8, Some(7), None))?);
+    assert!(rt; lanes_at(alloc, Some(1), None, row(8, Some(1), Some(7)))?);
+    assert!(rt; lanes_at(alloc, Some(2), None, row(8, None, None))?);
+    assert!(rt; lanes_at(alloc, None, None, row(8, None, None))?);
+    let mask = [Some(3), Some(0), None, Some(1)];
+    let all = Typed::Row(8, 4, [Some(13), Some(10), None, Some(11)]);
+    let args = [row(8, Some(10), Some(11)), row(8, Some(12), Some(13))];
+    assert!(rt; gives(alloc, Form::Shuffle(mask), &args, ty_of(all), Some(all))?);
     Ok(())
 }
