@@ -52,3 +52,6 @@ pub fn resolve(alloc: Global, draft: &Draft) -> Result<Resolved, ResolveRefusal>
     items_typed(alloc, &tops.scope, items)?;
     Ok(module_of(tops, items, done))
 }
+
+#[cfg(test)]
+mod tests;
