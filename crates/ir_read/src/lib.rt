@@ -13,6 +13,7 @@ ghost use Rattle.ir_read.specs.Draft.{draft_of};
 
 mod forms;
 mod function;
+mod laws;
 mod lines;
 mod names;
 mod numbers;
@@ -27,6 +28,7 @@ mod survey;
 
 use ir_line::Draft;
 use reader::judge;
+pub use laws::drafts_are_items;
 pub use refusal::{Limit, ReadRefusal};
 use std::alloc::Global;
 use survey::survey;

@@ -13,6 +13,7 @@ ghost use Rattle.ir_types_check.specs.Resolved.{resolved_of};
 mod building;
 mod cases;
 mod edges;
+mod laws;
 mod links;
 mod locals;
 mod outline;
@@ -26,6 +27,7 @@ mod types;
 
 use building::resolved_items;
 use ir_line::Draft;
+pub use laws::resolved_drafts_are_named;
 pub use refusal::ResolveRefusal;
 pub use resolved::Resolved;
 use resolved::module_of;

@@ -1,0 +1,62 @@
+-- A text that is read as a draft is the items of that draft.
+use Rattle.std.proofs.Common.{◌≡◌, ℕ, ◌+◌, List, [], ◌∷◌, Option, Some, None, Result, Ok, Err, refl, sym, ◌∙◌, ap, subst, map}
+use Rattle.ir_line.specs.declared.line.Line.{Line}
+use Rattle.ir_line.specs.declared.draft.Draft.{Draft}
+use Rattle.ir_line.specs.declared.draft.DraftItem.{DraftItem}
+use Rattle.ir_read.specs.declared.open_function.OpenFunction.{OpenFunction}
+use Rattle.ir_read.specs.declared.outlook.Outlook.{Outlook}
+use Rattle.ir_read.specs.declared.progress.Done.{Done}
+use Rattle.ir_read.specs.declared.progress.Progress.{Progress}
+use Rattle.ir_read.specs.declared.refusal.Limit.{Limit}
+use Rattle.ir_read.specs.declared.refusal.ReadRefusal.{ReadRefusal}
+use Rattle.ir_read.specs.Answers.{◌>>=◌}
+use Rattle.ir_read.specs.Lines.{lines_of}
+use Rattle.ir_read.specs.Faults.{first_fault, unless}
+use Rattle.ir_read.specs.Forms.{forms_of}
+use Rattle.ir_read.specs.Limits.{passed}
+use Rattle.ir_read.specs.Outlook.{outlook_of}
+use Rattle.ir_read.specs.Draft.{nothing_done, between, step, within, ended, read_from, draft_in, draft_of}
+use Rattle.ir_read.specs.Items.{closed_items, items_from, items_of, IsItems}
+
+refused : {A P : Type 0} {e : ReadRefusal} {a : A} → Err e ≡ Ok a → P
+refused e = cc
+
+then_ok : {A B P : Type 0} (o : Result A ReadRefusal) (f : A → Result B ReadRefusal) (b : B) → (o >>= f) ≡ Ok b → ((a : A) → o ≡ Ok a → f a ≡ Ok b → P) → P
+then_ok (Ok a) f b e k = k a refl e
+then_ok (Err x) f b e k = refused e
+
+within_ok : (done : Done) (limit : Option Limit) (d : Draft) → within done limit ≡ Ok d → done.items ≡ d.items
+within_ok done None d e = let x : Ok (record { items = done.items }) ≡ Ok d = e in let y : record { items = done.items } ≡ d = cc in ap (λ (z : Draft). z.items) y
+within_ok done (Some which) d e = refused e
+
+ended_ok : (n : ℕ) (done : Done) (o : Option OpenFunction) (d : Draft) → ended n done o ≡ Ok d → closed_items n done o ≡ Ok d.items
+ended_ok n done None d e = ap Ok (within_ok done (passed done.size) d e)
+ended_ok n done (Some o) d e = refused e
+
+-- every line that is passed has a form, and the items are those of the draft
+passed_forms : (known : Outlook) (n : ℕ) (read : Progress) (fs : List (Option Line)) (d : Draft) → read_from known n read fs ≡ Ok d →
+    (forms : List Line) × (fs ≡ map Some forms) × (items_from known n read fs ≡ Ok d.items)
+passed_forms known n read [] d e = ([], refl, ended_ok n read.done read.open_function d e)
+passed_forms known n read (None ∷ fs) d e = refused e
+passed_forms known n read (Some f ∷ fs) d e =
+    then_ok (step known n read (Some f)) (λ after. read_from known (n + 1) after fs) d e (λ after is rest.
+    let more : (forms : List Line) × (fs ≡ map Some forms) × (items_from known (n + 1) after fs ≡ Ok d.items) = passed_forms known (n + 1) after fs d rest in
+    (f ∷ more.0, ap (λ (x : List (Option Line)). Some f ∷ x) more.1, ap (λ (r : Result Progress ReadRefusal). r >>= (λ next. items_from known (n + 1) next fs)) is ∙ more.2))
+
+unless_ok : {A P : Type 0} (o : Option ReadRefusal) (a b : A) → unless o a ≡ Ok b → (o ≡ None → a ≡ b → P) → P
+unless_ok None a b e k = k refl (let x : Ok a ≡ Ok b = e in cc)
+unless_ok (Some x) a b e k = refused e
+
+pub draft_items : (bytes : List ℕ) (d : Draft) → draft_of bytes ≡ Ok d → IsItems bytes d.items
+draft_items bytes d e =
+    then_ok (unless (first_fault 1 (lines_of bytes)) (outlook_of (forms_of (lines_of bytes)))) (λ known. read_from known 1 (between nothing_done) (forms_of (lines_of bytes))) d e (λ known sound rest.
+    unless_ok (first_fault 1 (lines_of bytes)) (outlook_of (forms_of (lines_of bytes))) known sound (λ none same.
+    let here : read_from (outlook_of (forms_of (lines_of bytes))) 1 (between nothing_done) (forms_of (lines_of bytes)) ≡ Ok d = subst (λ k. read_from k 1 (between nothing_done) (forms_of (lines_of bytes)) ≡ Ok d) (sym same) rest in
+    let all : (forms : List Line) × (forms_of (lines_of bytes) ≡ map Some forms) × (items_from (outlook_of (forms_of (lines_of bytes))) 1 (between nothing_done) (forms_of (lines_of bytes)) ≡ Ok d.items)
+            = passed_forms (outlook_of (forms_of (lines_of bytes))) 1 (between nothing_done) (forms_of (lines_of bytes)) d here in
+    record {
+      sound = none;
+      forms = all.0;
+      spelled = all.1;
+      placed = subst (λ fs. items_from (outlook_of fs) 1 (between nothing_done) fs ≡ Ok d.items) all.1 all.2;
+    }))
