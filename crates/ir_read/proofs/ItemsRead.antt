@@ -53,7 +53,7 @@ draft_items bytes d e =
     unless_ok (first_fault 1 (lines_of bytes)) (outlook_of (forms_of (lines_of bytes))) known sound (λ none same.
     let here : read_from (outlook_of (forms_of (lines_of bytes))) 1 (between nothing_done) (forms_of (lines_of bytes)) ≡ Ok d = subst (λ k. read_from k 1 (between nothing_done) (forms_of (lines_of bytes)) ≡ Ok d) (sym same) rest in
     let all : (forms : List Line) × (forms_of (lines_of bytes) ≡ map Some forms) × (items_from (outlook_of (forms_of (lines_of bytes))) 1 (between nothing_done) (forms_of (lines_of bytes)) ≡ Ok d.items)
-            = passed_forms (outlook_of (forms_of (lines_of bytes))) 1 (between nothing_done) (forms_of (lines_of bytes)) d here in
+    = passed_forms (outlook_of (forms_of (lines_of bytes))) 1 (between nothing_done) (forms_of (lines_of bytes)) d here in
     record {
       sound = none;
       forms = all.0;

@@ -27,8 +27,8 @@ mod size;
 mod survey;
 
 use ir_line::Draft;
-use reader::judge;
 pub use laws::drafts_are_items;
+use reader::judge;
 pub use refusal::{Limit, ReadRefusal};
 use std::alloc::Global;
 use survey::survey;
