@@ -26,6 +26,8 @@ pub mod PartsMemory
 pub mod PartsOperands
 pub mod PartsTypes
 pub mod Splitting
+pub mod TextLinesNames
+pub mod TextLinesTypes
 pub mod Trimmed
 pub mod Words
 pub mod WordsNames
