@@ -27,6 +27,7 @@ pub mod PartsOperands
 pub mod PartsTypes
 pub mod Splitting
 pub mod TextLinesNames
+pub mod TextLinesOnce
 pub mod TextLinesTypes
 pub mod Trimmed
 pub mod Words
