@@ -26,8 +26,10 @@ pub mod PartsMemory
 pub mod PartsOperands
 pub mod PartsTypes
 pub mod Splitting
+pub mod TextLinesFits
 pub mod TextLinesNames
 pub mod TextLinesOnce
+pub mod TextLinesTyped
 pub mod TextLinesTypes
 pub mod Trimmed
 pub mod Words
