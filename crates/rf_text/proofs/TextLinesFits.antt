@@ -3,6 +3,7 @@ use Rattle.std.proofs.Common.{◌≡◌, ℕ, suc, zero, ◌+◌, ◌<◌, ◌�
 use Rattle.std.proofs.Math.Decide.{dec_lt}
 use Rattle.std.proofs.lemmas.List.{get_or_past, length-map}
 use Rattle.std.proofs.lemmas.List.Elements.{All-weaker}
+use Rattle.std.proofs.lemmas.List.Sums.{get_or-le-sum_by}
 use Rattle.std.specs.List.{All, count_by}
 use Rattle.ir_types.specs.declared.id.Id.{Id}
 use Rattle.ir_types.specs.declared.ty.Ty.{Ty}
@@ -56,15 +57,11 @@ labels_count f = params_count f.params (blocks_named f.blocks) (length f.blocks)
 
 -- what stands in a list is counted
 counted_in : (xs : List ℕ) (k d c : ℕ) → k < length xs → slice_index_or xs k d ≡ c → count_by (λ b. b == c) xs ≡ 0 → ⊥
-counted_in [] k d c l e none = omega (arith, l)
-counted_in (x ∷ xs) zero d c l e none =
-    let one : cond (x == c) 1 0 + count_by (λ b. b == c) xs ≡ 0 = none in
-    let here : (x == c) ≡ true = eq-eqb x c e in
-    let more : 1 + count_by (λ b. b == c) xs ≡ 0 = rw here at one in
-    omega (arith, more)
-counted_in (x ∷ xs) (suc k) d c l e none =
-    let one : cond (x == c) 1 0 + count_by (λ b. b == c) xs ≡ 0 = none in
-    counted_in xs k d c (omega (arith, l)) e (omega (arith, one))
+counted_in xs k d c within is none =
+    let least : cond (slice_index_or xs k d == c) 1 0 ≤ count_by (λ b. b == c) xs = get_or-le-sum_by (λ b. cond (b == c) 1 0) xs k d within in
+    let here : (slice_index_or xs k d == c) ≡ true = eq-eqb (slice_index_or xs k d) c is in
+    let one : 1 ≤ count_by (λ b. b == c) xs = rw here at least in
+    omega (arith, one, none)
 
 -- what is no block has no edges
 no_edges : (f : Func) (c : ℕ) → length f.blocks ≤ c → targets_at (graph_of f) c ≡ []
