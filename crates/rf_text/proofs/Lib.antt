@@ -26,6 +26,8 @@ pub mod PartsMemory
 pub mod PartsOperands
 pub mod PartsTypes
 pub mod Splitting
+pub mod TextLines
+pub mod TextLinesBodies
 pub mod TextLinesFits
 pub mod TextLinesNames
 pub mod TextLinesOnce
