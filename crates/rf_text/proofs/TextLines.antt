@@ -3,11 +3,8 @@ use Rattle.std.proofs.Common.{◌≡◌, ℕ, ◌+◌, Bool, true, false, List, 
 use Rattle.std.proofs.lemmas.List.{append-nil, map-append}
 use Rattle.std.proofs.lemmas.List.Elements.{All-head, All-tail}
 use Rattle.std.specs.List.{All, list_all}
-use Rattle.ir_lex.specs.Bytes.{is_control}
-use Rattle.ir_lex.specs.Scan.{cut, fault_of}
+use Rattle.ir_lex.specs.Scan.{cut}
 use Rattle.ir_lex.specs.Tokens.{is_name}
-use Rattle.ir_types.specs.declared.id.Id.{Id}
-use Rattle.ir_types.specs.declared.func.Func.{Func}
 use Rattle.ir_types.specs.declared.module.Item.{Item}
 use Rattle.ir_types.specs.declared.module.Item.TheVariants.{Kept, Opaque, Func as FuncItem}
 use Rattle.ir_types.specs.declared.module.Module.{Module}
@@ -16,11 +13,11 @@ use Rattle.ir_line.specs.declared.line.Line.{Line}
 use Rattle.ir_line.specs.declared.line.Line.TheVariants as line
 use Rattle.ir_line.specs.Outside.{read_outside}
 use Rattle.ir_print.specs.Text.{item_text, is_function, gap_text, more_items, items_text, text_of}
-use Rattle.ir_read.specs.Faults.{first_fault, or_later}
+use Rattle.ir_read.specs.Faults.{first_fault}
 use Rattle.ir_read.specs.Forms.{form_in, form_by, inside_after, forms_from}
 use Rattle.ir_read.specs.Lines.{lines_of}
-use Rattle.rf_text.specs.LinesOf.{joined, is_line}
-use Rattle.rf_text.specs.ModuleForms.{kept_at, item_forms, gap_forms, more_items_forms, items_forms, module_forms}
+use Rattle.rf_text.specs.LinesOf.{is_line}
+use Rattle.rf_text.specs.ModuleForms.{item_forms, gap_forms, more_items_forms, items_forms, module_forms}
 use Rattle.rf_text.specs.Printable.{IsPlainItem, IsPrintable, IsCountedItem, IsCounted}
 use Rattle.rf_text.specs.TextLines.{TextLines}
 use Rattle.rf_text.proofs.Insts.{heads, tails, none_more, joined_append}

@@ -1,5 +1,5 @@
 -- The text of a formed and printable function is lines that are read as its forms.
-use Rattle.std.proofs.Common.{◌≡◌, ℕ, ◌+◌, ◌<◌, ◌^◌, Bool, true, false, ◌&&◌, List, [], ◌∷◌, ◌++◌, length, map, Option, Some, None, refl, sym, ◌∙◌, ap, codes, append_assoc}
+use Rattle.std.proofs.Common.{◌≡◌, ℕ, ◌+◌, ◌<◌, ◌^◌, Bool, true, false, List, [], ◌∷◌, ◌++◌, length, map, Option, Some, None, refl, ◌∙◌, ap, codes, append_assoc}
 use Rattle.std.proofs.lemmas.List.Folds.{list_all-append}
 use Rattle.std.proofs.lemmas.Option.{slice_get-get_or}
 use Rattle.std.specs.List.{All, list_all, slice_get, slice_index_or}
@@ -13,19 +13,18 @@ use Rattle.ir_types.specs.declared.inst.Inst.{Inst}
 use Rattle.ir_types.specs.declared.func.Block.{Block}
 use Rattle.ir_types.specs.declared.func.Func.{Func}
 use Rattle.ir_types.specs.declared.module.Module.{Module}
-use Rattle.ir_types.specs.Formed.{IsFormedInst, IsFormedBlock, IsFormedFunc}
+use Rattle.ir_types.specs.Formed.{IsFormedBlock, IsFormedFunc}
 use Rattle.ir_line.specs.declared.line.Line.{Line}
 use Rattle.ir_line.specs.declared.line.Line.TheVariants as line
 use Rattle.ir_print.specs.Names.{Names, named_of, names_of}
-use Rattle.ir_print.specs.Text.{header_text, blocks_text, func_text}
+use Rattle.ir_print.specs.Text.{blocks_text, func_text}
 use Rattle.ir_read.specs.Forms.{form_in, inside_after, forms_from}
 use Rattle.rf_text.specs.Headed.{HeaderAgain, header_line, first_name, shown_head}
 use Rattle.rf_text.specs.LinesOf.{joined}
 use Rattle.rf_text.specs.ModuleForms.{func_forms}
 use Rattle.rf_text.specs.ModuleForms as module_forms
-use Rattle.rf_text.specs.Printable.{IsPlainInst, IsPlainBlock, IsPlainFunc}
+use Rattle.rf_text.specs.Printable.{IsPlainInst, IsPlainFunc}
 use Rattle.rf_text.specs.Printed.{Printed, IsReadAgain}
-use Rattle.rf_text.specs.Shown.{Shown}
 use Rattle.rf_text.specs.Written.{cases_of, first_ty, more_forms, forms_of, insts_forms, label_forms, next_forms, more_block_forms, body_forms}
 use Rattle.rf_text.proofs.HeadsAgain.{header_again}
 use Rattle.rf_text.proofs.Insts.{heads, tails, none_more, too_few}

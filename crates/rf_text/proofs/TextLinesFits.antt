@@ -1,11 +1,10 @@
 -- Each instruction of a formed and printable function fits what is shown.
-use Rattle.std.proofs.Common.{◌≡◌, ℕ, suc, zero, ◌+◌, ◌<◌, ◌≤◌, ◌==◌, ◌^◌, Bool, true, false, cond, List, [], ◌∷◌, length, map, Option, Some, None, refl, sym, ◌∙◌, ap, subst, arith, eq-eqb, slice_index_or, option_map, ◌⊎◌, inl, inr}
+use Rattle.std.proofs.Common.{◌≡◌, ℕ, suc, ◌<◌, ◌≤◌, ◌==◌, Bool, true, false, cond, List, [], ◌∷◌, length, map, Option, Some, None, refl, ◌∙◌, ap, arith, eq-eqb, slice_index_or, option_map}
 use Rattle.std.proofs.Math.Decide.{dec_lt}
 use Rattle.std.proofs.lemmas.List.{get_or_past, length-map}
 use Rattle.std.proofs.lemmas.List.Elements.{All-weaker}
 use Rattle.std.proofs.lemmas.List.Sums.{get_or-le-sum_by}
 use Rattle.std.specs.List.{All, count_by}
-use Rattle.ir_types.specs.declared.id.Id.{Id}
 use Rattle.ir_types.specs.declared.ty.Ty.{Ty}
 use Rattle.ir_types.specs.declared.opd.Opd.{Opd}
 use Rattle.ir_types.specs.declared.opd.Opd.TheVariants.{Val, Lit, Sym}
@@ -18,10 +17,9 @@ use Rattle.ir_types.specs.declared.func.Func.{Func}
 use Rattle.ir_types.specs.declared.module.Module.{Module}
 use Rattle.ir_types.specs.Walks.{targets_at}
 use Rattle.ir_types.specs.Available.{op_targets, block_targets, graph_of}
-use Rattle.ir_types.specs.Typed.{IsTyped}
 use Rattle.ir_types.specs.Formed.{opd_ty, IsTarget, IsIncoming, IsFormedInst}
 use Rattle.ir_print.specs.declared.names.Local.{Local}
-use Rattle.ir_print.specs.Names.{Names, Named, Value, Label, result_named, insts_named, blocks_named, params_named, named_of, counted, labels_from, names_of, local_of, is_store, is_void}
+use Rattle.ir_print.specs.Names.{Named, result_named, insts_named, blocks_named, params_named, named_of, counted, labels_from, names_of, is_store, is_void}
 use Rattle.rf_text.specs.Shown.{shown_ty, op_blocks, Fits}
 use Rattle.rf_text.specs.Printable.{IsPlainInst}
 use Rattle.rf_text.proofs.TextLinesOnce.{NamedOnce, Found, found, given_shown}

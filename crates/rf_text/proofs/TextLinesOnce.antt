@@ -1,7 +1,7 @@
 -- Where ids are given once, the last value of an id is the first: what is shown of a value has the type that it has.
-use Rattle.std.proofs.Common.{◌≡◌, ℕ, suc, zero, ◌+◌, ◌<◌, Bool, true, false, ◌||◌, ◌&&◌, List, [], ◌∷◌, ◌++◌, length, map, nat_eq, Option, Some, None, refl, sym, ◌∙◌, ap, subst, arith, if◌then◌else◌}
+use Rattle.std.proofs.Common.{◌≡◌, ℕ, suc, zero, ◌<◌, Bool, true, false, ◌||◌, List, [], ◌∷◌, ◌++◌, length, map, nat_eq, Option, Some, None, refl, sym, ◌∙◌, ap, subst, arith, if◌then◌else◌}
 use Rattle.std.proofs.lemmas.Bool.Decides.{nat_tests}
-use Rattle.std.specs.List.{AllPairs, list_any, slice_get, slice_index_or}
+use Rattle.std.specs.List.{AllPairs, list_any, slice_index_or}
 use Rattle.ir_lex.proofs.Classes.{both, neither}
 use Rattle.ir_types.specs.declared.id.Id.{Id}
 use Rattle.ir_types.specs.declared.ty.Ty.{Ty}
@@ -9,11 +9,9 @@ use Rattle.ir_types.specs.declared.inst.Inst.{Inst}
 use Rattle.ir_types.specs.declared.func.Param.{Param}
 use Rattle.ir_types.specs.declared.func.Block.{Block}
 use Rattle.ir_types.specs.declared.func.Func.{Func}
-use Rattle.ir_types.specs.declared.module.Item.{Item}
-use Rattle.ir_types.specs.Formed.{block_ids, item_ids, ids_of_items}
+use Rattle.ir_types.specs.Formed.{block_ids}
 use Rattle.ir_print.specs.declared.names.Local.{Local}
 use Rattle.ir_print.specs.Names.{Named, Value, Label, result_named, insts_named, blocks_named, params_named, named_of, shown, counted, locals_from, same_id, last_of, is_store, is_void}
-use Rattle.rf_text.proofs.HeadsShown.{id_same}
 use Rattle.rf_text.proofs.TextLinesTypes.{first_in, gives_id}
 
 -- ---- ids that are given once
@@ -145,29 +143,29 @@ found id n (Value v ty name ∷ vs) before t once e =
     here_found id n v ty name vs before t (same_id v id) refl once.0 e (λ (x : first_in id vs ≡ Some t). found id (counted n name) vs before t once.1 x)
 
 -- what was found, or a later one
-abbrev pub Some_found : Id → List Local → Option Local → Type 0
-Some_found id ls before = (l : Local) × (last_of id ls before ≡ Some l)
+abbrev pub AnyFound : Id → List Local → Option Local → Type 0
+AnyFound id ls before = (l : Local) × (last_of id ls before ≡ Some l)
 
-some_chosen : (id : Id) (ls : List Local) (l x : Local) (same : Bool) → ((y : Local) → Some_found id ls (Some y)) → Some_found id ls (if same then Some x else Some l)
+some_chosen : (id : Id) (ls : List Local) (l x : Local) (same : Bool) → ((y : Local) → AnyFound id ls (Some y)) → AnyFound id ls (if same then Some x else Some l)
 some_chosen id ls l x true h = h x
 some_chosen id ls l x false h = h l
 
-some_stays : (id : Id) (ls : List Local) (l : Local) → Some_found id ls (Some l)
+some_stays : (id : Id) (ls : List Local) (l : Local) → AnyFound id ls (Some l)
 some_stays id [] l = (l, refl)
 some_stays id (x ∷ xs) l = some_chosen id xs l x (same_id x.id id) (λ y. some_stays id xs y)
 
 no : {P : Type 0} → false ≡ true → P
 no e = cc
 
-here_given : (id : Id) (l : Local) (ls : List Local) (vs : List Named) (before : Option Local) (same : Bool) → same_id l.id id ≡ same → (same || gives_id id vs) ≡ true → (gives_id id vs ≡ true → Some_found id ls before) → Some_found id (l ∷ ls) before
+here_given : (id : Id) (l : Local) (ls : List Local) (vs : List Named) (before : Option Local) (same : Bool) → same_id l.id id ≡ same → (same || gives_id id vs) ≡ true → (gives_id id vs ≡ true → AnyFound id ls before) → AnyFound id (l ∷ ls) before
 here_given id l ls vs before true s h more =
-    let found : Some_found id ls (Some l) = some_stays id ls l in
+    let found : AnyFound id ls (Some l) = some_stays id ls l in
     (found.0, step id l ls before true s ∙ found.1)
 here_given id l ls vs before false s h more =
-    let found : Some_found id ls before = more h in
+    let found : AnyFound id ls before = more h in
     (found.0, step id l ls before false s ∙ found.1)
 
-pub given_shown : (id : Id) (n : ℕ) (vs : List Named) (before : Option Local) → gives_id id vs ≡ true → Some_found id (locals_from n vs) before
+pub given_shown : (id : Id) (n : ℕ) (vs : List Named) (before : Option Local) → gives_id id vs ≡ true → AnyFound id (locals_from n vs) before
 given_shown id n [] before h = no h
 given_shown id n (Label name ∷ vs) before h = given_shown id (counted n name) vs before h
 given_shown id n (Value v ty name ∷ vs) before h =

@@ -1,5 +1,5 @@
 -- The first value of an id among what a function names has the type that the function gives to that id.
-use Rattle.std.proofs.Common.{◌≡◌, ℕ, suc, zero, Bool, true, false, ◌||◌, List, [], ◌∷◌, ◌++◌, Option, Some, None, refl, sym, ◌∙◌, ap, if◌then◌else◌}
+use Rattle.std.proofs.Common.{◌≡◌, ℕ, suc, zero, Bool, true, false, ◌||◌, List, [], ◌∷◌, Option, Some, None, refl, sym, ◌∙◌, ap, if◌then◌else◌}
 use Rattle.std.specs.List.{slice_get}
 use Rattle.ir_lex.proofs.Classes.{clash}
 use Rattle.ir_types.specs.declared.id.Id.{Id}
