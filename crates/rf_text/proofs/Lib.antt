@@ -26,6 +26,13 @@ pub mod PartsMemory
 pub mod PartsOperands
 pub mod PartsTypes
 pub mod Splitting
+pub mod TextLines
+pub mod TextLinesBodies
+pub mod TextLinesFits
+pub mod TextLinesNames
+pub mod TextLinesOnce
+pub mod TextLinesTyped
+pub mod TextLinesTypes
 pub mod Trimmed
 pub mod Words
 pub mod WordsNames

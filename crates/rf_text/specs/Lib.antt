@@ -7,4 +7,5 @@ pub mod Printable
 pub mod Printed
 pub mod Reads
 pub mod Shown
+pub mod TextLines
 pub mod Written
