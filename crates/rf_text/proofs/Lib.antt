@@ -30,3 +30,5 @@ pub mod Trimmed
 pub mod Words
 pub mod WordsNames
 pub mod WordsNumbers
+pub mod PlacedInsts
+pub mod PlacedNames
