@@ -30,5 +30,6 @@ pub mod Trimmed
 pub mod Words
 pub mod WordsNames
 pub mod WordsNumbers
+pub mod PlacedBlocks
 pub mod PlacedInsts
 pub mod PlacedNames

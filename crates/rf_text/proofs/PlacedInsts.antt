@@ -166,7 +166,7 @@ module _ (names : List (List ℕ)) (ns : Names) (gs : List (List ℕ)) where
     pub stand : body_lines names line (place n insts blocks spot) (insts_forms ns gs is) ≡ Ok (place next insts_behind blocks no_block)
     pub ahead : Ahead ns at next vs
 
-  insts_stand : (before : Bool) (line n insts number at : ℕ) (i : Inst) (is : List Inst) (vs : List Named) → ends_from i is ≡ true → PhisFirst before (i ∷ is) → All (IsFitting names gs number) (i ∷ is) →
+  pub insts_stand : (before : Bool) (line n insts number at : ℕ) (i : Inst) (is : List Inst) (vs : List Named) → ends_from i is ≡ true → PhisFirst before (i ∷ is) → All (IsFitting names gs number) (i ∷ is) →
       Ahead ns at n (insts_named (i ∷ is) vs) → InstsStand line n insts (number + 1) at (opening before) (i ∷ is) vs
   insts_stand before line n insts number at i [] vs ends phis fits ahead =
       let result : ResultTaken ns line at n (stmt_of ns gs i).result vs = result_taken ns line at n i vs (is_void i.ty) (is_store i.op) (All-head (IsFitting names gs number) i [] fits).named ahead in
