@@ -1,14 +1,14 @@
--- Lines of a function's body, one behind the other: where the last of them leaves the position, and what they make of the open function.
-use Rattle.std.proofs.Common.{ℕ, ◌+◌, Result, Ok, Err, List, [], ◌∷◌, ◌++◌}
+-- Lines of a function's body, one behind the other, and names for what is known between two lines: proofs of other crates speak of these.
+use Rattle.std.proofs.Common.{ℕ, ◌+◌, Result, Ok, Err, List, [], ◌∷◌}
 use Rattle.ir_line.specs.declared.line.Line.{Line}
 use Rattle.ir_line.specs.declared.line.Line.TheVariants as line
-use Rattle.ir_line.specs.declared.draft.Numbered.{Numbered}
 use Rattle.ir_read.specs.declared.outlook.Outlook.{Outlook}
 use Rattle.ir_read.specs.declared.open_function.OpenFunction.{OpenFunction as Open}
 use Rattle.ir_read.specs.declared.position.Position.{Position}
 use Rattle.ir_read.specs.declared.position.Spot.{Spot}
 use Rattle.ir_read.specs.declared.position.Spot.TheVariants.{Between, Front, Behind, Cases}
 use Rattle.ir_read.specs.declared.progress.Done.{Done}
+use Rattle.ir_read.specs.declared.progress.Progress.{Progress}
 use Rattle.ir_read.specs.declared.refusal.ReadRefusal.{ReadRefusal}
 use Rattle.ir_read.specs.declared.refusal.ReadRefusal.TheVariants.{Misplaced}
 use Rattle.ir_read.specs.Answers.{◌>>=◌}
@@ -21,12 +21,15 @@ Place = Position
 abbrev pub Opening : Type 0
 Opening = Spot
 
--- the function that is open, what is read, and what the whole text says
+-- the function that is open, what is read, both together, and what the whole text says
 abbrev pub OpenFunction : Type 0
 OpenFunction = Open
 
 abbrev pub Read : Type 0
 Read = Done
+
+abbrev pub Reading : Type 0
+Reading = Progress
 
 abbrev pub Known : Type 0
 Known = Outlook
@@ -55,13 +58,3 @@ body_line names n p form = after_line names n p form
 abbrev pub body_lines : List (List ℕ) → ℕ → Position → List Line → Result Position ReadRefusal
 body_lines names n p [] = Ok p
 body_lines names n p (f ∷ fs) = body_line names n p f >>= (λ q. body_lines names (n + 1) q fs)
-
--- lines of these forms with their numbers, the first of which is n; empty lines are dropped
-abbrev pub body_from : ℕ → List Line → List Numbered
-body_from n [] = []
-body_from n (line.Empty ∷ fs) = body_from (n + 1) fs
-body_from n (f ∷ fs) = record { line = n; form = f } ∷ body_from (n + 1) fs
-
--- the function with lines of these forms
-abbrev pub with_lines : Open → ℕ → List Line → Position → Open
-with_lines o n fs p = record { line = o.line; head = o.head; body = o.body ++ body_from n fs; at = p }

@@ -32,4 +32,5 @@ pub mod WordsNames
 pub mod WordsNumbers
 pub mod PlacedBlocks
 pub mod PlacedInsts
+pub mod PlacedItems
 pub mod PlacedNames
