@@ -25,12 +25,13 @@ pub mod PartsLiterals
 pub mod PartsMemory
 pub mod PartsOperands
 pub mod PartsTypes
+pub mod PlacedBlocks
+pub mod PlacedInsts
+pub mod PlacedItems
+pub mod PlacedModule
+pub mod PlacedNames
 pub mod Splitting
 pub mod Trimmed
 pub mod Words
 pub mod WordsNames
 pub mod WordsNumbers
-pub mod PlacedBlocks
-pub mod PlacedInsts
-pub mod PlacedItems
-pub mod PlacedNames

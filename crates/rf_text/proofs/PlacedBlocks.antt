@@ -1,5 +1,5 @@
 -- The blocks of a function stand where they are shown, and so does its body.
-use Rattle.std.proofs.Common.{◌≡◌, ℕ, suc, zero, ◌+◌, ◌^◌, ◌<◌, Bool, true, false, cond, List, [], ◌∷◌, ◌++◌, length, map, Option, Some, None, Result, Ok, Err, nat_eq, refl, sym, ◌∙◌, ap, arith, slice_get}
+use Rattle.std.proofs.Common.{◌≡◌, ℕ, ◌+◌, ◌^◌, ◌<◌, true, false, List, [], ◌∷◌, ◌++◌, length, map, Option, Some, None, Result, Ok, nat_eq, refl, ◌∙◌, ap, arith, slice_get}
 use Rattle.std.proofs.lemmas.Bool.Decides.{nat_tests}
 use Rattle.std.specs.List.{All}
 use Rattle.ir_types.specs.declared.op.Op.{Op}
@@ -11,7 +11,7 @@ use Rattle.ir_types.specs.declared.func.Func.{Func}
 use Rattle.ir_types.specs.Formed.{EndsOnce, PhisFirst, block_ids}
 use Rattle.ir_line.specs.declared.line.Line.{Line}
 use Rattle.ir_line.specs.declared.line.Line.TheVariants as form
-use Rattle.ir_print.specs.Names.{Names, Named, Label, names_of, named_of, params_named, insts_named, blocks_named, shown, counted, labels_from}
+use Rattle.ir_print.specs.Names.{Names, Named, Label, names_of, named_of, insts_named, blocks_named, shown, counted, labels_from}
 use Rattle.ir_read.specs.declared.refusal.ReadRefusal.{ReadRefusal}
 use Rattle.ir_read.specs.Answers.{◌>>=◌}
 use Rattle.ir_read.specs.Numbers.{after_params}
@@ -80,9 +80,9 @@ module _ (names : List (List ℕ)) (ns : Names) (gs : List (List ℕ)) where
       let small : n < 2 ^ 64 = ahead_small ns at n (Label b.name) (insts_named b.insts (blocks_named bs)) ahead in
       let found : slice_get ns.labels at ≡ Some (shown n b.name) = label_found ns at n b.name (insts_named b.insts (blocks_named bs)) ahead in
       let block : InstsStand names ns gs (line + 1 + 1) (counted n b.name) insts (at + 1) (at + 1) front b.insts (blocks_named bs) =
-          block_insts (line + 1 + 1) (counted n b.name) insts at (at + 1) b (blocks_named bs) fits.0 (label_passed ns at n b.name (insts_named b.insts (blocks_named bs)) ahead) in
+      block_insts (line + 1 + 1) (counted n b.name) insts at (at + 1) b (blocks_named bs) fits.0 (label_passed ns at n b.name (insts_named b.insts (blocks_named bs)) ahead) in
       let rest : LinesStand (line + 1 + 1 + length (insts_forms ns gs b.insts)) block.next block.insts_behind (at + 1) (more_blocks_forms ns gs (at + 1) bs) =
-          more_stand (line + 1 + 1 + length (insts_forms ns gs b.insts)) block.next block.insts_behind (at + 1) bs (some_block at) fits.1 block.ahead in
+      more_stand (line + 1 + 1 + length (insts_forms ns gs b.insts)) block.next block.insts_behind (at + 1) bs (some_block at) fits.1 block.ahead in
       let behind : List Line = insts_forms ns gs b.insts ++ more_blocks_forms ns gs (at + 1) bs in
       record {
         next = rest.next;
@@ -101,9 +101,9 @@ module _ (names : List (List ℕ)) (ns : Names) (gs : List (List ℕ)) where
       LinesStand line n 0 0 (label_forms name ++ (insts_forms ns gs b.insts ++ more_blocks_forms ns gs 1 bs))
   first_stands line n b bs None plain fits more ahead =
       let block : InstsStand names ns gs line (n + 1) 0 1 1 front b.insts (blocks_named bs) =
-          block_insts line (n + 1) 0 0 1 b (blocks_named bs) fits (label_passed ns 0 n None (insts_named b.insts (blocks_named bs)) ahead) in
+      block_insts line (n + 1) 0 0 1 b (blocks_named bs) fits (label_passed ns 0 n None (insts_named b.insts (blocks_named bs)) ahead) in
       let rest : LinesStand (line + length (insts_forms ns gs b.insts)) block.next block.insts_behind 1 (more_blocks_forms ns gs 1 bs) =
-          more_stand (line + length (insts_forms ns gs b.insts)) block.next block.insts_behind 1 bs refl more block.ahead in
+      more_stand (line + length (insts_forms ns gs b.insts)) block.next block.insts_behind 1 bs refl more block.ahead in
       record {
         next = rest.next;
         insts_behind = rest.insts_behind;
@@ -117,9 +117,9 @@ module _ (names : List (List ℕ)) (ns : Names) (gs : List (List ℕ)) where
   first_stands line n b bs (Some name) plain fits more ahead =
       let small : n < 2 ^ 64 = ahead_small ns 0 n (Label (Some name)) (insts_named b.insts (blocks_named bs)) ahead in
       let block : InstsStand names ns gs (line + 1) n 0 1 1 front b.insts (blocks_named bs) =
-          block_insts (line + 1) n 0 0 1 b (blocks_named bs) fits (label_passed ns 0 n (Some name) (insts_named b.insts (blocks_named bs)) ahead) in
+      block_insts (line + 1) n 0 0 1 b (blocks_named bs) fits (label_passed ns 0 n (Some name) (insts_named b.insts (blocks_named bs)) ahead) in
       let rest : LinesStand (line + 1 + length (insts_forms ns gs b.insts)) block.next block.insts_behind 1 (more_blocks_forms ns gs 1 bs) =
-          more_stand (line + 1 + length (insts_forms ns gs b.insts)) block.next block.insts_behind 1 bs refl more block.ahead in
+      more_stand (line + 1 + length (insts_forms ns gs b.insts)) block.next block.insts_behind 1 bs refl more block.ahead in
       record {
         next = rest.next;
         insts_behind = rest.insts_behind;

@@ -1,9 +1,9 @@
 -- The parameters and the instructions of a function stand where they are shown.
-use Rattle.std.proofs.Common.{◌≡◌, ℕ, suc, zero, ◌+◌, ◌^◌, ◌<◌, Bool, true, false, cond, not, ◌&&◌, ◌||◌, List, [], ◌∷◌, ◌++◌, length, map, Option, Some, None, Result, Ok, Err, nat_eq, refl, sym, ◌∙◌, ap, arith, eq-eqb}
+use Rattle.std.proofs.Common.{◌≡◌, ℕ, suc, ◌+◌, ◌^◌, ◌<◌, Bool, true, false, not, ◌&&◌, List, [], ◌∷◌, ◌++◌, length, map, Option, Some, Result, Ok, Err, refl, ◌∙◌, ap, arith}
 use Rattle.std.proofs.lemmas.List.{append-nil}
 use Rattle.std.proofs.lemmas.List.Elements.{All-head, All-tail}
 use Rattle.std.specs.List.{All}
-use Rattle.ir_lex.proofs.Classes.{both, clash}
+use Rattle.ir_lex.proofs.Classes.{both}
 use Rattle.ir_types.specs.declared.ty.Ty.{Ty}
 use Rattle.ir_types.specs.declared.opd.Opd.{Opd}
 use Rattle.ir_types.specs.declared.opd.Opd.TheVariants.{Val, Lit, Sym}
@@ -14,14 +14,13 @@ use Rattle.ir_types.specs.declared.func.Param.{Param}
 use Rattle.ir_types.specs.Formed.{is_phi, is_alloca, is_terminator, ends_from, PhisFirst}
 use Rattle.ir_line.specs.declared.line.Line.{Line}
 use Rattle.ir_line.specs.declared.line.Line.TheVariants as form
-use Rattle.ir_line.specs.declared.stmt.Stmt.{Stmt}
-use Rattle.ir_print.specs.Names.{Names, Named, Value, Label, result_named, insts_named, params_named, shown, counted, local_of, is_store, is_void}
+use Rattle.ir_print.specs.Names.{Names, Named, Value, result_named, insts_named, params_named, shown, counted, local_of, is_store, is_void}
 use Rattle.ir_read.specs.declared.refusal.ReadRefusal.{ReadRefusal}
 use Rattle.ir_read.specs.Answers.{◌>>=◌}
 use Rattle.ir_read.specs.Outlook.{has}
-use Rattle.ir_read.specs.Numbers.{after_name, after_result, after_param, after_params}
-use Rattle.ir_read.specs.Position.{is_between, may_stand, spot_after, opened, in_first, after_stmt, after_case, after_cases}
-use Rattle.ir_read.specs.Function.{any_barred, is_foreign, is_outside, after_inst}
+use Rattle.ir_read.specs.Numbers.{after_result, after_param, after_params}
+use Rattle.ir_read.specs.Position.{may_stand, spot_after, opened, after_stmt, after_case, after_cases}
+use Rattle.ir_read.specs.Function.{any_barred, is_foreign, after_inst}
 use Rattle.ir_read.proofs.Placing.{Place, Opening, no_block, front, behind, cases, place, body_line, body_lines}
 use Rattle.rf_text.specs.Headed.{shown_name, shown_params}
 use Rattle.rf_text.specs.Shown.{is_call}
@@ -171,7 +170,7 @@ module _ (names : List (List ℕ)) (ns : Names) (gs : List (List ℕ)) where
   insts_stand before line n insts number at i [] vs ends phis fits ahead =
       let result : ResultTaken ns line at n (stmt_of ns gs i).result vs = result_taken ns line at n i vs (is_void i.ty) (is_store i.op) (All-head (IsFitting names gs number) i [] fits).named ahead in
       let stands : body_lines names line (place n insts (number + 1) (opening before)) (forms_of ns gs i) ≡ Ok (place result.next (insts + 1) (number + 1) (opening_behind (is_terminator i.op) (before && is_phi i.op))) =
-          inst_stands before line n result.next insts number i (All-head (IsFitting names gs number) i [] fits) phis.0 result.taken in
+      inst_stands before line n result.next insts number i (All-head (IsFitting names gs number) i [] fits) phis.0 result.taken in
       let ended : opening_behind (is_terminator i.op) (before && is_phi i.op) ≡ no_block = rw ends refl in
       record {
         next = result.next;
@@ -181,13 +180,13 @@ module _ (names : List (List ℕ)) (ns : Names) (gs : List (List ℕ)) where
       }
   insts_stand before line n insts number at i (j ∷ is) vs ends phis fits ahead =
       let result : ResultTaken ns line at n (stmt_of ns gs i).result (insts_named (j ∷ is) vs) =
-          result_taken ns line at n i (insts_named (j ∷ is) vs) (is_void i.ty) (is_store i.op) (All-head (IsFitting names gs number) i (j ∷ is) fits).named ahead in
+      result_taken ns line at n i (insts_named (j ∷ is) vs) (is_void i.ty) (is_store i.op) (All-head (IsFitting names gs number) i (j ∷ is) fits).named ahead in
       let stands : body_lines names line (place n insts (number + 1) (opening before)) (forms_of ns gs i) ≡ Ok (place result.next (insts + 1) (number + 1) (opening_behind (is_terminator i.op) (before && is_phi i.op))) =
-          inst_stands before line n result.next insts number i (All-head (IsFitting names gs number) i (j ∷ is) fits) phis.0 result.taken in
+      inst_stands before line n result.next insts number i (All-head (IsFitting names gs number) i (j ∷ is) fits) phis.0 result.taken in
       let goes : opening_behind (is_terminator i.op) (before && is_phi i.op) ≡ opening (before && is_phi i.op) = rw (negated (is_terminator i.op) (both (not (is_terminator i.op)) _ ends).0) refl in
       let rest : InstsStand (line + length (forms_of ns gs i)) result.next (insts + 1) (number + 1) at (opening (before && is_phi i.op)) (j ∷ is) vs =
-          insts_stand (before && is_phi i.op) (line + length (forms_of ns gs i)) result.next (insts + 1) number at j is vs (both (not (is_terminator i.op)) _ ends).1 phis.1
-          (All-tail (IsFitting names gs number) i (j ∷ is) fits) result.ahead in
+      insts_stand (before && is_phi i.op) (line + length (forms_of ns gs i)) result.next (insts + 1) number at j is vs (both (not (is_terminator i.op)) _ ends).1 phis.1
+      (All-tail (IsFitting names gs number) i (j ∷ is) fits) result.ahead in
       record {
         next = rest.next;
         insts_behind = rest.insts_behind;

@@ -1,5 +1,5 @@
 -- Names and numbers, as far as they are shown: those that are still ahead, each of which takes the counter as a reader takes it.
-use Rattle.std.proofs.Common.{◌≡◌, ℕ, suc, zero, ◌+◌, ◌^◌, ◌<◌, Bool, true, false, cond, not, ◌&&◌, List, [], ◌∷◌, ◌++◌, length, map, Option, Some, None, Result, Ok, Err, nat_eq, refl, sym, ◌∙◌, ap, arith, eq-eqb, if◌then◌else◌, slice_get, slice_index_or}
+use Rattle.std.proofs.Common.{◌≡◌, ℕ, suc, zero, ◌+◌, ◌^◌, ◌<◌, Bool, true, false, List, [], ◌∷◌, ◌++◌, length, map, Option, Some, None, Ok, nat_eq, refl, sym, ◌∙◌, ap, arith, eq-eqb, if◌then◌else◌, slice_get}
 use Rattle.std.proofs.lemmas.Bool.Decides.{nat_tests}
 use Rattle.std.proofs.lemmas.List.{append_assoc}
 use Rattle.std.proofs.lemmas.List.Elements.{All-head, All-tail}
@@ -17,7 +17,7 @@ use Rattle.ir_types.specs.declared.func.Block.{Block}
 use Rattle.ir_types.specs.Formed.{block_ids}
 use Rattle.ir_print.specs.declared.names.Local.{Local}
 use Rattle.ir_print.specs.Names.{Names, Named, Value, Label, result_named, insts_named, blocks_named, params_named, shown, counted, locals_from, labels_from, same_id, last_of, local_of, is_store, is_void}
-use Rattle.ir_read.specs.Numbers.{is_unnamed, is_next, after_name}
+use Rattle.ir_read.specs.Numbers.{is_unnamed, after_name}
 use Rattle.rf_text.specs.Printable.{is_plain}
 use Rattle.rf_text.proofs.WordsNumbers.{IsDecimal, decimal_is, decimal_read}
 
@@ -64,9 +64,10 @@ all_none id (x ∷ xs) h = (All-head (λ (x : Id). id ≡ x → ⊥) x xs h, all
 
 pub pairs_apart : (xs : List Id) → AllPairs (λ (a b : Id). a ≡ b → ⊥) xs → Apart xs
 pairs_apart [] h = tt
-pairs_apart (x ∷ xs) h =
-    (all_none x xs (λ k d within. h zero (suc k) d (omega arith) (omega (arith, within))),
-     pairs_apart xs (λ i j d less within. h (suc i) (suc j) d (omega (arith, less)) (omega (arith, within))))
+pairs_apart (x ∷ xs) h = (
+  all_none x xs (λ k d within. h zero (suc k) d (omega arith) (omega (arith, within))),
+  pairs_apart xs (λ i j d less within. h (suc i) (suc j) d (omega (arith, less)) (omega (arith, within))),
+)
 
 -- ids that are some of others, in order
 record Among (xs ys : List Id) : Type 0 where
