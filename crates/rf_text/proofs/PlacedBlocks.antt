@@ -71,6 +71,14 @@ module _ (names : List (List ℕ)) (ns : Names) (gs : List (List ℕ)) where
     pub stand : body_lines names line (place n insts blocks no_block) forms ≡ Ok (place next insts_behind blocks_behind no_block)
     pub some : nat_eq blocks_behind 0 ≡ false
 
+  -- the instructions of a block, and the blocks behind it
+  behind_label : (line n insts at : ℕ) (b : Block) (bs : List Block) → (block : InstsStand names ns gs line n insts (at + 1) (at + 1) front b.insts (blocks_named bs)) →
+      (rest : LinesStand (line + length (insts_forms ns gs b.insts)) block.next block.insts_behind (at + 1) (more_blocks_forms ns gs (at + 1) bs)) →
+      body_lines names line (place n insts (at + 1) front) (insts_forms ns gs b.insts ++ more_blocks_forms ns gs (at + 1) bs) ≡ Ok (place rest.next rest.insts_behind rest.blocks_behind no_block)
+  behind_label line n insts at b bs block rest =
+      lines_append names line (place n insts (at + 1) front) (place block.next block.insts_behind (at + 1) no_block) (insts_forms ns gs b.insts) (more_blocks_forms ns gs (at + 1) bs) block.stand
+      ∙ rest.stand
+
   some_block : (at : ℕ) → nat_eq (at + 1) 0 ≡ false
   some_block at = grind (arith, nat_tests)
 
@@ -91,8 +99,7 @@ module _ (names : List (List ℕ)) (ns : Names) (gs : List (List ℕ)) where
         stand =
             ap (λ (name : Option (List ℕ)). body_lines names (line + 1) (place n insts at no_block) (label_forms name ++ behind)) found
             ∙ ap (λ (r : Result Place ReadRefusal). r >>= (λ q. body_lines names (line + 1 + 1) q behind)) (label_stands (line + 1) n insts at b.name fits.0.named small)
-            ∙ lines_append names (line + 1 + 1) (place (counted n b.name) insts (at + 1) front) (place block.next block.insts_behind (at + 1) no_block) (insts_forms ns gs b.insts) (more_blocks_forms ns gs (at + 1) bs) block.stand
-            ∙ rest.stand;
+            ∙ behind_label (line + 1 + 1) (counted n b.name) insts at b bs block rest;
         some = rest.some;
       }
 
@@ -110,8 +117,7 @@ module _ (names : List (List ℕ)) (ns : Names) (gs : List (List ℕ)) where
         blocks_behind = rest.blocks_behind;
         stand =
             unnamed_block line n 0 b.insts (more_blocks_forms ns gs 1 bs) fits.ends
-            ∙ lines_append names line (place (n + 1) 0 1 front) (place block.next block.insts_behind 1 no_block) (insts_forms ns gs b.insts) (more_blocks_forms ns gs 1 bs) block.stand
-            ∙ rest.stand;
+            ∙ behind_label line (n + 1) 0 0 b bs block rest;
         some = rest.some;
       }
   first_stands line n b bs (Some name) plain fits more ahead =
@@ -126,8 +132,7 @@ module _ (names : List (List ℕ)) (ns : Names) (gs : List (List ℕ)) where
         blocks_behind = rest.blocks_behind;
         stand =
             ap (λ (r : Result Place ReadRefusal). r >>= (λ q. body_lines names (line + 1) q (insts_forms ns gs b.insts ++ more_blocks_forms ns gs 1 bs))) (label_stands line n 0 0 (Some name) plain small)
-            ∙ lines_append names (line + 1) (place n 0 1 front) (place block.next block.insts_behind 1 no_block) (insts_forms ns gs b.insts) (more_blocks_forms ns gs 1 bs) block.stand
-            ∙ rest.stand;
+            ∙ behind_label (line + 1) n 0 0 b bs block rest;
         some = rest.some;
       }
 
