@@ -25,6 +25,11 @@ pub mod PartsLiterals
 pub mod PartsMemory
 pub mod PartsOperands
 pub mod PartsTypes
+pub mod PlacedBlocks
+pub mod PlacedInsts
+pub mod PlacedItems
+pub mod PlacedModule
+pub mod PlacedNames
 pub mod Splitting
 pub mod TextLines
 pub mod TextLinesBodies

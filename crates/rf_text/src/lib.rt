@@ -6,6 +6,7 @@
 
 mod instructions;
 mod outside;
+mod placed_forms;
 mod text_lines;
 
 pub use instructions::{printed_bodies, printed_braces, printed_instructions, printed_labels};
@@ -14,3 +15,4 @@ pub use outside::{
     kept_lines_again, lines_again, params_are_shown, sound_are_lines,
 };
 pub use text_lines::texts_are_lines;
+pub use placed_forms::forms_are_placed;
