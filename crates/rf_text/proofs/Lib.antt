@@ -25,6 +25,7 @@ pub mod PartsLiterals
 pub mod PartsMemory
 pub mod PartsOperands
 pub mod PartsTypes
+pub mod Renumbering
 pub mod Splitting
 pub mod TextLines
 pub mod TextLinesBodies
