@@ -30,6 +30,7 @@ pub mod PlacedInsts
 pub mod PlacedItems
 pub mod PlacedModule
 pub mod PlacedNames
+pub mod Renumbering
 pub mod Splitting
 pub mod TextLines
 pub mod TextLinesBodies

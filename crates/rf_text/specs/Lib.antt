@@ -7,6 +7,7 @@ pub mod PlacedForms
 pub mod Printable
 pub mod Printed
 pub mod Reads
+pub mod Renumbered
 pub mod Shown
 pub mod TextLines
 pub mod Written
