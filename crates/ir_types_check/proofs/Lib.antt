@@ -1,4 +1,5 @@
 -- Lemmas that nobody need believe.
 pub mod Counts
+pub mod Handed
 pub mod Known
 pub mod Rows

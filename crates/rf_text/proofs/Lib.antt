@@ -17,6 +17,9 @@ pub mod InstsSwitch
 pub mod InstsValues
 pub mod InstsVectors
 pub mod Kept
+pub mod NamedScope
+pub mod NamedShown
+pub mod NamedThings
 pub mod Parts
 pub mod PartsBlocks
 pub mod PartsFlags
