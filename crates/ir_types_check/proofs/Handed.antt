@@ -4,6 +4,7 @@ use Rattle.ir_types.specs.declared.ty.Ty.{Ty}
 use Rattle.ir_types_check.specs.declared.locals.Meaning.{Meaning}
 use Rattle.ir_types_check.specs.declared.locals.Meaning.TheVariants.{Value, Block}
 use Rattle.ir_types_check.specs.declared.locals.Locals.{Locals}
+use Rattle.ir_types_check.specs.declared.outline.At.{At}
 use Rattle.ir_types_check.specs.declared.tops.Signature.{Signature}
 use Rattle.ir_types_check.specs.declared.tops.Top.{Top}
 use Rattle.ir_types_check.specs.declared.tops.Top.TheVariants.{Global, Function, Other}
@@ -23,6 +24,9 @@ value_at place ty = Value place ty
 
 abbrev pub block_at : ℕ → LocalMeaning
 block_at number = Block number
+
+abbrev pub LinePlace : Type 0
+LinePlace = At
 
 abbrev pub LocalNames : Type 0
 LocalNames = Locals

@@ -17,6 +17,8 @@ pub mod InstsSwitch
 pub mod InstsValues
 pub mod InstsVectors
 pub mod Kept
+pub mod NamedLocals
+pub mod NamedPlaces
 pub mod NamedScope
 pub mod NamedShown
 pub mod NamedThings
