@@ -91,13 +91,13 @@ value_found base n p ls l ts is placed =
     ∙ ap (last_of l.id (locals_from n (named_things ts))) (last_here l (last_of l.id ls None))
     ∙ tail
 
-slice_get-append : {X : Type 0} (xs : List X) (y : X) (ys : List X) (k : ℕ) → length xs ≡ k → slice_get (xs ++ y ∷ ys) k ≡ Some y
+pub slice_get-append : {X : Type 0} (xs : List X) (y : X) (ys : List X) (k : ℕ) → length xs ≡ k → slice_get (xs ++ y ∷ ys) k ≡ Some y
 slice_get-append [] y ys zero e = refl
 slice_get-append [] y ys (suc k) e = absurd (omega (arith, e))
 slice_get-append (x ∷ xs) y ys zero e = absurd (omega (arith, e))
 slice_get-append (x ∷ xs) y ys (suc k) e = slice_get-append xs y ys k (omega (arith, e))
 
-push_length : {X : Type 0} (xs : List X) (y : X) (k : ℕ) → length xs ≡ k → length (xs ++ y ∷ []) ≡ k + 1
+pub push_length : {X : Type 0} (xs : List X) (y : X) (k : ℕ) → length xs ≡ k → length (xs ++ y ∷ []) ≡ k + 1
 push_length [] y k e = omega (arith, e)
 push_length (x ∷ xs) y k e = let less : length (xs ++ y ∷ []) ≡ length xs + 1 = push_length xs y (length xs) refl in omega (arith, less, e)
 
