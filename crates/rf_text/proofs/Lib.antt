@@ -17,6 +17,7 @@ pub mod InstsSwitch
 pub mod InstsValues
 pub mod InstsVectors
 pub mod Kept
+pub mod NamedBuilt
 pub mod NamedLinks
 pub mod NamedLocals
 pub mod NamedPlaces
