@@ -24,6 +24,7 @@ pub mod NamedPlaces
 pub mod NamedScope
 pub mod NamedShown
 pub mod NamedThings
+pub mod NamedTyped
 pub mod Parts
 pub mod PartsBlocks
 pub mod PartsFlags
