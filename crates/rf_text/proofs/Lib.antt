@@ -18,6 +18,7 @@ pub mod InstsValues
 pub mod InstsVectors
 pub mod Kept
 pub mod NamedBuilt
+pub mod NamedFound
 pub mod NamedLinks
 pub mod NamedLocals
 pub mod NamedPlaces
