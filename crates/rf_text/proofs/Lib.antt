@@ -19,6 +19,7 @@ pub mod InstsVectors
 pub mod Kept
 pub mod NamedBuilt
 pub mod NamedFound
+pub mod NamedFunction
 pub mod NamedLinks
 pub mod NamedLocals
 pub mod NamedPlaces

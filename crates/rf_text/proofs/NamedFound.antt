@@ -17,7 +17,7 @@ use Rattle.ir_types.specs.declared.func.Param.{Param}
 use Rattle.ir_types.specs.declared.func.Block.{Block}
 use Rattle.ir_types.specs.declared.func.Func.{Func}
 use Rattle.ir_types.specs.declared.module.Module.{Module}
-use Rattle.ir_types.specs.Formed.{IsFormedInst, IsFormedBlock, IsFormedFunc, given_ty, or_else, ty_in_insts, ty_in_blocks, ty_in_params, value_ty, opd_ty}
+use Rattle.ir_types.specs.Formed.{EndsOnce, IsFormedInst, IsFormedBlock, IsFormedFunc, given_ty, or_else, ty_in_insts, ty_in_blocks, ty_in_params, value_ty, opd_ty}
 use Rattle.ir_print.specs.declared.names.Local.{Local}
 use Rattle.ir_print.specs.Names.{Names, names_of, named_of, locals_from, labels_from, shown, counted, same_id, last_of, local_of, is_store, is_void}
 use Rattle.ir_types_check.specs.Scope.{Scope, meaning}
@@ -180,3 +180,7 @@ module _ (m : Module) (f : Func) (tops : Scope TopMeaning) (scope : Scope LocalM
   -- all blocks
   pub blocks_are_read : IsFormedFunc m f → IsPlainFunc f → All (IsReadBlock tops scope base (names_of f) m.globals) f.blocks
   blocks_are_read formed plain = each_all (IsFormedBlock m f) IsPlainBlock (IsReadBlock tops scope base (names_of f) m.globals) block_is_read f.blocks formed.blocks plain.blocks
+
+-- each block of a formed function ends once
+pub all_end : (m : Module) (f : Func) → IsFormedFunc m f → All (λ (b : Block). EndsOnce b.insts) f.blocks
+all_end m f formed k d within = (formed.blocks k (slice_index_or f.blocks k d) (slice_get-get_or f.blocks k d within)).ends
