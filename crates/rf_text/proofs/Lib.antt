@@ -26,6 +26,7 @@ pub mod NamedPlaces
 pub mod NamedScope
 pub mod NamedShown
 pub mod NamedThings
+pub mod NamedTops
 pub mod NamedTyped
 pub mod Parts
 pub mod PartsBlocks

@@ -35,7 +35,7 @@ Placed base p (Silent id ∷ ts) = (id ≡ id_at base p) × Placed base (p + 1) 
 Placed base p (Begins name ∷ ts) = Placed base p ts
 
 -- ids in order are those of places
-ids_split : (id : Id) (ids : List Id) (k m : ℕ) → id ∷ ids ≡ ids_from k m → (j : ℕ) × (id ≡ record { region = 0; k = k }) × (ids ≡ ids_from (k + 1) j)
+pub ids_split : (id : Id) (ids : List Id) (k m : ℕ) → id ∷ ids ≡ ids_from k m → (j : ℕ) × (id ≡ record { region = 0; k = k }) × (ids ≡ ids_from (k + 1) j)
 ids_split id ids k zero e = cc
 ids_split id ids k (suc m) e = (m, cc, cc)
 
