@@ -22,6 +22,7 @@ pub mod NamedFound
 pub mod NamedFunction
 pub mod NamedLinks
 pub mod NamedLocals
+pub mod NamedModule
 pub mod NamedPlaces
 pub mod NamedScope
 pub mod NamedShown

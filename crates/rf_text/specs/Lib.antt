@@ -3,6 +3,7 @@ pub mod Headed
 pub mod KeptParts
 pub mod LinesOf
 pub mod ModuleForms
+pub mod NamedItems
 pub mod Printable
 pub mod Printed
 pub mod Reads

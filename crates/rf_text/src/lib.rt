@@ -5,9 +5,11 @@
 #![tactic(auto)]
 
 mod instructions;
+mod named_items;
 mod outside;
 
 pub use instructions::{printed_braces, printed_instructions, printed_labels};
+pub use named_items::printed_items_are_named;
 pub use outside::{
     forms_are_of_lines, headers_again, headers_are_heads, heads_of_lines, kept_lines_again,
     lines_again, params_are_shown,
