@@ -148,6 +148,20 @@ module _ (base : ℕ) (scope : Scope LocalMeaning) (once : Once scope) where
       whole : scope ≡ done ++ scope_from next place b rest
       known : Known base scope ns next place b rest
 
+    -- what stands behind the lines behind an instruction
+    joined : (rest last : List Thing) (b : ℕ) (o : Bool) (more end : List Line) (said : Result LocalNames ResolveRefusal) (first : Behind rest b o more said) → o ≡ true →
+        Passed last b end (with_lines (locals first.done first.next first.place b true) (numbered_from first.number more)) → Passed last b end said
+    joined rest last b o more end said first opens next = record {
+      done = next.done;
+      next = next.next;
+      place = next.place;
+      number = next.number;
+      is_open = next.is_open;
+      said_is = first.said_is ∙ (ap (λ (t : Bool). with_lines (locals first.done first.next first.place b t) (numbered_from first.number more)) opens ∙ next.said_is);
+      whole = next.whole;
+      known = next.known;
+    }
+
     module _ (gs : List (List ℕ)) where
       -- an instruction and the lines of its cases
       inst_passed : (i : Inst) (fs more : List Line) (ln n p b : ℕ) (done : Scope LocalMeaning) (rest : List Thing) → scope ≡ done ++ scope_from n p b (insts_things (i ∷ []) rest) → Known base scope ns n p b (insts_things (i ∷ []) rest) →
@@ -180,18 +194,8 @@ module _ (base : ℕ) (scope : Scope LocalMeaning) (once : Once scope) where
           let parts : (not (is_terminator i.op) ≡ true) × (ends_from j is ≡ true) = both (not (is_terminator i.op)) (ends_from j is) ends in
           let first : Behind (insts_things (j ∷ is) rest) b (not (is_terminator i.op)) (insts_forms ns gs (j ∷ is) ++ more) (with_lines (locals done n p b true) (numbered_from ln ((forms_of ns gs i ++ insts_forms ns gs (j ∷ is)) ++ more))) =
           inst_passed i (insts_forms ns gs (j ∷ is)) more ln n p b done (insts_things (j ∷ is) rest) whole known in
-          let next : Passed rest b more (with_lines (locals first.done first.next first.place b true) (numbered_from first.number (insts_forms ns gs (j ∷ is) ++ more))) =
-          insts_read j is more first.number first.next first.place b first.done rest parts.1 first.whole first.known in
-          record {
-            done = next.done;
-            next = next.next;
-            place = next.place;
-            number = next.number;
-            is_open = next.is_open;
-            said_is = first.said_is ∙ ap (λ (t : Bool). with_lines (locals first.done first.next first.place b t) (numbered_from first.number (insts_forms ns gs (j ∷ is) ++ more))) parts.0 ∙ next.said_is;
-            whole = next.whole;
-            known = next.known;
-          }
+          joined (insts_things (j ∷ is) rest) rest b (not (is_terminator i.op)) (insts_forms ns gs (j ∷ is) ++ more) more _ first parts.0
+          (insts_read j is more first.number first.next first.place b first.done rest parts.1 first.whole first.known)
 
       -- ---- blocks
 
