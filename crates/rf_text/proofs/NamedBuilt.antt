@@ -1,19 +1,16 @@
 -- The blocks of a function, as its printed body builds them: they are the function's.
-use Rattle.std.proofs.Common.{◌≡◌, ℕ, suc, zero, ◌+◌, Bool, true, false, not, ◌&&◌, List, [], ◌∷◌, ◌++◌, length, Option, Some, None, Result, Ok, refl, sym, ◌∙◌, ap, arith, append_assoc, length-append}
+use Rattle.std.proofs.Common.{◌≡◌, ℕ, ◌+◌, Bool, true, false, not, ◌&&◌, List, [], ◌∷◌, ◌++◌, length, Option, Some, None, Result, Ok, refl, sym, ◌∙◌, ap, arith, append_assoc}
 use Rattle.std.proofs.lemmas.List.{append-nil}
 use Rattle.std.proofs.lemmas.List.Elements.{All-head, All-tail}
-use Rattle.std.specs.List.{All, slice_get}
-use Rattle.ir_types.specs.declared.id.Id.{Id}
+use Rattle.std.specs.List.{All}
 use Rattle.ir_types.specs.declared.ty.Ty.{Ty}
 use Rattle.ir_types.specs.declared.opd.Opd.{Opd}
 use Rattle.ir_types.specs.declared.op.Op.{Op}
 use Rattle.ir_types.specs.declared.op.Op.TheVariants.{Switch}
 use Rattle.ir_types.specs.declared.inst.Inst.{Inst}
-use Rattle.ir_types.specs.declared.func.Param.{Param}
 use Rattle.ir_types.specs.declared.func.Block.{Block}
 use Rattle.ir_types.specs.Formed.{is_terminator, ends_from, EndsOnce}
 use Rattle.ir_lex.proofs.Classes.{both}
-use Rattle.ir_line.specs.declared.stmt.Stmt.{Stmt}
 use Rattle.ir_line.specs.declared.line.Line.{Line}
 use Rattle.ir_line.specs.declared.line.Line.TheVariants as line
 use Rattle.ir_line.specs.declared.draft.Numbered.{Numbered}
@@ -23,14 +20,13 @@ use Rattle.ir_types_check.specs.declared.refusal.ResolveRefusal.{ResolveRefusal}
 use Rattle.ir_types_check.specs.Answers.{◌>>=◌}
 use Rattle.ir_types_check.specs.Scope.{Scope}
 use Rattle.ir_types_check.specs.Outline.{written_name, written as written_again}
-use Rattle.ir_types_check.specs.Blocks.{open_block, with_last, with_inst, labelled, with_statement, built_line, built_lines}
+use Rattle.ir_types_check.specs.Blocks.{open_block, with_last, with_inst, labelled, with_statement, built_lines}
 use Rattle.ir_types_check.proofs.Handed.{LocalMeaning, TopMeaning, BuiltSoFar}
 use Rattle.rf_text.specs.Printable.{gives}
 use Rattle.rf_text.specs.Written.{result_of, shown_text, stmt_of, first_ty, more_forms, cases_of, forms_of}
 use Rattle.rf_text.specs.ModuleForms.{label_forms, insts_forms, more_blocks_forms, blocks_forms, numbered_from}
-use Rattle.rf_text.proofs.NamedShown.{Again}
-use Rattle.rf_text.proofs.NamedThings.{Thing, Gives, Silent, Begins, inst_thing, insts_things, blocks_things}
-use Rattle.rf_text.proofs.NamedPlaces.{Known, IsBlock, id_at, ids_things, push_length}
+use Rattle.rf_text.proofs.NamedThings.{Thing, inst_thing, insts_things, blocks_things}
+use Rattle.rf_text.proofs.NamedPlaces.{Known, id_at, ids_things, push_length}
 use Rattle.rf_text.proofs.NamedLinks.{IsFoundInst, inst_again}
 
 abbrev pub built_with : List Block → Option Block → List ℕ → BuiltSoFar

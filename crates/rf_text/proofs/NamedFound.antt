@@ -1,6 +1,5 @@
 -- What a formed function uses is found by what is shown of it.
-use Rattle.std.proofs.Common.{◌≡◌, ℕ, suc, zero, ◌+◌, ◌<◌, Bool, true, false, ◌||◌, if◌then◌else◌, nat_lt, List, [], ◌∷◌, length, Option, Some, None, Ok, refl, sym, ◌∙◌, ap, arith}
-use Rattle.std.specs.Prelude.{unwrap_or}
+use Rattle.std.proofs.Common.{◌≡◌, ℕ, suc, ◌<◌, Bool, true, false, ◌||◌, if◌then◌else◌, nat_lt, List, [], ◌∷◌, length, Option, Some, None, Ok, refl, sym, ◌∙◌, ap, arith}
 use Rattle.std.proofs.lemmas.Bool.Decides.{nat_tests}
 use Rattle.std.proofs.lemmas.List.Elements.{All-weaker}
 use Rattle.std.proofs.lemmas.Option.{slice_get-get_or}
@@ -19,11 +18,10 @@ use Rattle.ir_types.specs.declared.func.Func.{Func}
 use Rattle.ir_types.specs.declared.module.Module.{Module}
 use Rattle.ir_types.specs.Formed.{EndsOnce, IsFormedInst, IsFormedBlock, IsFormedFunc, given_ty, or_else, ty_in_insts, ty_in_blocks, ty_in_params, value_ty, opd_ty}
 use Rattle.ir_print.specs.declared.names.Local.{Local}
-use Rattle.ir_print.specs.Names.{Names, names_of, named_of, locals_from, labels_from, shown, counted, same_id, last_of, local_of, is_store, is_void}
+use Rattle.ir_print.specs.Names.{names_of, locals_from, labels_from, shown, counted, same_id, last_of, local_of, is_store, is_void}
 use Rattle.ir_types_check.specs.Scope.{Scope, meaning}
 use Rattle.ir_types_check.proofs.Handed.{LocalMeaning, TopMeaning, block_at, global_at}
 use Rattle.rf_text.specs.Printable.{IsPlainInst, IsPlainBlock, IsPlainFunc}
-use Rattle.rf_text.specs.Written.{shown_global}
 use Rattle.rf_text.proofs.NamedThings.{Thing, Gives, Silent, Begins, inst_thing, insts_things, blocks_things, params_things, things_of, named_things, things_are}
 use Rattle.rf_text.proofs.NamedPlaces.{Known, IsPlaced, value_placed, block_known}
 use Rattle.rf_text.proofs.NamedLinks.{IsFoundOpd, IsFoundBlock, IsFoundInst}
@@ -82,7 +80,7 @@ insts_give : (id : Id) (is : List Inst) (other : Option Ty) (rest : List Thing) 
 insts_give id [] other rest next h = next h
 insts_give id (i ∷ is) other rest next h = go (same_id i.id id) refl h (λ h. insts_give id is other rest next h) where
   go : (t : Bool) → same_id i.id id ≡ t → IsReal (or_else (if t then Some (given_ty i.op i.ty) else ty_in_insts id is) other) → (IsReal (or_else (ty_in_insts id is) other) → has_value id (insts_things is rest) ≡ true) → has_value id (insts_things (i ∷ is) rest) ≡ true
-  go true same h behind = let is' : (is_void i.ty ≡ false) × (is_store i.op ≡ false) = given_real (is_void i.ty) i refl h in inst_gives id (is_void i.ty) (is_store i.op) i (insts_things is rest) is'.0 is'.1 same
+  go true same h behind = let value : (is_void i.ty ≡ false) × (is_store i.op ≡ false) = given_real (is_void i.ty) i refl h in inst_gives id (is_void i.ty) (is_store i.op) i (insts_things is rest) value.0 value.1 same
   go false same h behind = inst_passes id (is_void i.ty) (is_store i.op) i (insts_things is rest) (behind h)
 
 blocks_give : (id : Id) (bs : List Block) → IsReal (ty_in_blocks id bs) → has_value id (blocks_things bs) ≡ true

@@ -1,6 +1,6 @@
 -- A function as its printed header and body resolve: it is the same function, each of its ids the next of the module.
-use Rattle.std.proofs.Common.{◌≡◌, ℕ, suc, zero, ◌+◌, ◌^◌, ◌<◌, ◌≤◌, Bool, true, false, List, [], ◌∷◌, ◌++◌, map, length, Option, Some, None, Result, Ok, refl, sym, ◌∙◌, ap, arith, append_assoc, length-append}
-use Rattle.std.proofs.lemmas.List.Elements.{All-nil, All-cons, All-head, All-tail, All-weaker}
+use Rattle.std.proofs.Common.{◌≡◌, ℕ, ◌+◌, ◌^◌, ◌<◌, ◌≤◌, Bool, true, false, List, [], ◌∷◌, ◌++◌, map, length, Option, Result, Ok, refl, sym, ◌∙◌, ap, arith, length-append}
+use Rattle.std.proofs.lemmas.List.Elements.{All-nil, All-cons, All-head, All-tail}
 use Rattle.std.specs.List.{All, AllPairs}
 use Rattle.ir_types.specs.declared.id.Id.{Id}
 use Rattle.ir_types.specs.declared.inst.Inst.{Inst}
@@ -11,23 +11,23 @@ use Rattle.ir_types.specs.declared.module.Item.TheVariants.{Func as FuncItem}
 use Rattle.ir_types.specs.declared.module.Module.{Module}
 use Rattle.ir_types.specs.Formed.{IsFormedFunc, EndsOnce, block_ids, item_ids}
 use Rattle.ir_print.specs.declared.names.Local.{Local}
-use Rattle.ir_print.specs.Names.{Names, Named, names_of, named_of, locals_from, labels_from, local_of, shown, counted, is_store, is_void}
+use Rattle.ir_print.specs.Names.{Names, names_of, named_of, locals_from, labels_from, local_of, counted, is_store, is_void}
 use Rattle.ir_types_check.specs.declared.refusal.ResolveRefusal.{ResolveRefusal}
 use Rattle.ir_types_check.specs.Answers.{◌>>=◌}
 use Rattle.ir_types_check.specs.Scope.{Scope}
 use Rattle.ir_types_check.specs.Outline.{written as written_again}
 use Rattle.ir_types_check.specs.Locals.{locals_of}
-use Rattle.ir_types_check.specs.Blocks.{params_from, param_lines, func_of, closed, built_lines, built_of}
+use Rattle.ir_types_check.specs.Blocks.{params_from, param_lines, built_of}
 use Rattle.ir_types_check.specs.Resolved.{with_built, resolved_function}
 use Rattle.ir_types_check.proofs.Handed.{LocalMeaning, TopMeaning, LocalNames, BuiltSoFar, DoneSoFar}
-use Rattle.rf_text.specs.Headed.{shown_name, shown_param, shown_params, shown_head}
+use Rattle.rf_text.specs.Headed.{shown_name, shown_params, shown_head}
 use Rattle.rf_text.specs.Printable.{is_plain, written_names, IsPlainInst, IsPlainBlock, IsPlainFunc, ids_from}
-use Rattle.rf_text.specs.ModuleForms.{body_forms, blocks_forms, numbered_from}
+use Rattle.rf_text.specs.ModuleForms.{body_forms, numbered_from}
 use Rattle.rf_text.proofs.NamedScope.{Once}
-use Rattle.rf_text.proofs.NamedThings.{Thing, Gives, Silent, Begins, inst_thing, insts_things, blocks_things, params_things, things_of, named_things, things_are, scope_from, IsPlainThing, once_from}
-use Rattle.rf_text.proofs.NamedPlaces.{Known, known_from, id_at, ids_things, Placed, placed_from}
+use Rattle.rf_text.proofs.NamedThings.{Thing, Gives, Begins, inst_thing, insts_things, blocks_things, params_things, things_of, named_things, things_are, scope_from, IsPlainThing, once_from}
+use Rattle.rf_text.proofs.NamedPlaces.{Known, known_from, ids_things, Placed, placed_from}
 use Rattle.rf_text.proofs.NamedLocals.{Ended, locals_are}
-use Rattle.rf_text.proofs.NamedBuilt.{IsReadBlock, Built, body_built, built_with}
+use Rattle.rf_text.proofs.NamedBuilt.{IsReadBlock, Built, body_built}
 use Rattle.rf_text.proofs.NamedFound.{HasGlobals, blocks_are_read, all_end}
 
 -- ---- the things of a plain function

@@ -1,5 +1,5 @@
 -- What the names of a printed instruction stand for: its operands, its blocks and its cases.
-use Rattle.std.proofs.Common.{◌≡◌, ℕ, suc, zero, ◌+◌, true, false, List, [], ◌∷◌, ◌++◌, map, length, Option, Some, None, Result, Ok, refl, sym, ◌∙◌, ap, arith, append_assoc}
+use Rattle.std.proofs.Common.{◌≡◌, ℕ, ◌+◌, List, [], ◌∷◌, ◌++◌, map, length, Option, Result, Ok, refl, sym, ◌∙◌, ap, arith, append_assoc}
 use Rattle.std.specs.Prelude.{unwrap_or}
 use Rattle.std.proofs.lemmas.List.{append-nil}
 use Rattle.std.proofs.lemmas.List.Elements.{All-head, All-tail}
@@ -20,7 +20,6 @@ use Rattle.ir_types_check.specs.Outline.{written as written_again}
 use Rattle.ir_types_check.specs.Links.{block_of, opd_of, opds_onto, blocks_onto, in_order, with_pair, pairs_onto, linked_by, linked, choices, with_choice, cases_onto, cases_of as linked_cases, block_at, op_of as linked_op}
 use Rattle.ir_types_check.specs.Blocks.{id_of, inst_of}
 use Rattle.ir_types_check.proofs.Handed.{LocalMeaning, TopMeaning, LinkedNames, LinkedCases}
-use Rattle.rf_text.specs.Shown.{op_blocks}
 use Rattle.rf_text.specs.Written.{written, shown_block, arg_of, places_from, op_of, line_blocks, stmt_of, first_ty, more_forms, cases_of}
 use Rattle.rf_text.specs.ModuleForms.{numbered_from}
 use Rattle.rf_text.proofs.NamedPlaces.{slice_get-append, push_length}

@@ -1,9 +1,8 @@
 -- The names of a function, as its printed header and body define them: they are what is shown of its things.
-use Rattle.std.proofs.Common.{◌≡◌, ℕ, suc, zero, ◌+◌, Bool, true, false, not, cond, List, [], ◌∷◌, ◌++◌, Option, Some, None, Result, Ok, refl, sym, ◌∙◌, ap, append_assoc, append-nil}
+use Rattle.std.proofs.Common.{◌≡◌, ℕ, ◌+◌, Bool, true, false, not, List, [], ◌∷◌, ◌++◌, Option, Some, None, Result, Ok, refl, sym, ◌∙◌, ap, append_assoc, append-nil}
 use Rattle.std.proofs.lemmas.List.Elements.{All-head, All-tail}
-use Rattle.std.specs.List.{All, slice_get}
+use Rattle.std.specs.List.{All}
 use Rattle.std.specs.Fmt.{decimal}
-use Rattle.ir_types.specs.declared.id.Id.{Id}
 use Rattle.ir_types.specs.declared.ty.Ty.{Ty}
 use Rattle.ir_types.specs.declared.opd.Opd.{Opd}
 use Rattle.ir_types.specs.declared.op.Op.{Op}
@@ -22,16 +21,16 @@ use Rattle.ir_print.specs.Names.{Names, names_of, local_of, shown, counted, is_s
 use Rattle.ir_types_check.specs.declared.refusal.ResolveRefusal.{ResolveRefusal}
 use Rattle.ir_types_check.specs.Answers.{◌>>=◌}
 use Rattle.ir_types_check.specs.Scope.{Scope, of_function}
-use Rattle.ir_types_check.specs.Outline.{start, opened, behind_param, behind_label, behind_inst}
-use Rattle.ir_types_check.specs.Locals.{with_name, with_param, with_params, with_label, with_opened, with_result, with_stmt, with_line, with_lines, locals_of}
+use Rattle.ir_types_check.specs.Outline.{opened, behind_param, behind_label, behind_inst}
+use Rattle.ir_types_check.specs.Locals.{with_name, with_param, with_params, with_label, with_opened, with_stmt, with_lines, locals_of}
 use Rattle.ir_types_check.proofs.Handed.{LocalMeaning, value_at, block_at, LinePlace, LocalNames}
 use Rattle.rf_text.specs.Headed.{shown_param, shown_params, shown_head}
 use Rattle.rf_text.specs.Written.{op_of, result_of, shown_text, stmt_of, first_ty, more_forms, cases_of, forms_of}
 use Rattle.rf_text.specs.ModuleForms.{label_forms, insts_forms, more_blocks_forms, blocks_forms, body_forms, numbered_from}
 use Rattle.rf_text.proofs.NamedScope.{Once, defined, moved}
 use Rattle.rf_text.proofs.NamedShown.{Again}
-use Rattle.rf_text.proofs.NamedThings.{Thing, Gives, Silent, Begins, inst_thing, insts_things, blocks_things, params_things, things_of, scope_from}
-use Rattle.rf_text.proofs.NamedPlaces.{Known, IsValue, IsBlock}
+use Rattle.rf_text.proofs.NamedThings.{Thing, Begins, inst_thing, insts_things, blocks_things, params_things, things_of, scope_from}
+use Rattle.rf_text.proofs.NamedPlaces.{Known, IsValue}
 
 -- names that are defined, where n is the next number, p the next place and b the number of the next block, and one is open or not
 abbrev pub locals : Scope LocalMeaning → ℕ → ℕ → ℕ → Bool → LocalNames

@@ -1,31 +1,28 @@
 -- A module as its printed items resolve: it is the same module.
-use Rattle.std.proofs.Common.{◌≡◌, ℕ, suc, zero, ◌+◌, ◌^◌, ◌<◌, Bool, true, false, List, [], ◌∷◌, ◌++◌, length, Option, Some, None, Result, Ok, refl, sym, ◌∙◌, ap, arith, append_assoc}
+use Rattle.std.proofs.Common.{◌≡◌, ℕ, ◌+◌, Bool, true, false, List, [], ◌∷◌, ◌++◌, length, Option, None, Result, Ok, refl, sym, ◌∙◌, ap, arith, append_assoc}
 use Rattle.std.proofs.lemmas.List.{append-nil}
 use Rattle.std.proofs.lemmas.List.Elements.{All-head, All-tail}
 use Rattle.std.specs.List.{All}
 use Rattle.ir_types.specs.declared.id.Id.{Id}
-use Rattle.ir_types.specs.declared.func.Func.{Func}
 use Rattle.ir_types.specs.declared.module.Item.{Item}
 use Rattle.ir_types.specs.declared.module.Item.TheVariants.{Kept, Opaque, Func as FuncItem}
 use Rattle.ir_types.specs.declared.module.Module.{Module}
-use Rattle.ir_types.specs.Formed.{IsFormed, IsFormedFunc, IsFormedItem, item_ids, ids_of_items, ids_of}
-use Rattle.ir_line.specs.declared.draft.DraftItem.{DraftItem}
+use Rattle.ir_types.specs.Formed.{IsFormedFunc, IsFormedItem, item_ids, ids_of_items, ids_of}
 use Rattle.ir_print.specs.Names.{names_of}
-use Rattle.ir_print.specs.Text.{is_function}
 use Rattle.ir_types_check.specs.declared.refusal.ResolveRefusal.{ResolveRefusal}
 use Rattle.ir_types_check.specs.Answers.{◌>>=◌}
 use Rattle.ir_types_check.specs.Scope.{Scope}
-use Rattle.ir_types_check.specs.Tops.{with_items, tops_of}
-use Rattle.ir_types_check.specs.Resolved.{with_kept, resolved_function, resolved_items, if_big, big_endian_line, module_of}
+use Rattle.ir_types_check.specs.Tops.{with_items}
+use Rattle.ir_types_check.specs.Resolved.{with_kept, resolved_function, resolved_items, big_endian_line, module_of}
 use Rattle.ir_types_check.specs.Named.{Names}
-use Rattle.ir_types_check.proofs.Handed.{TopMeaning, TopNames, DoneSoFar}
+use Rattle.ir_types_check.proofs.Handed.{TopMeaning, DoneSoFar}
 use Rattle.rf_text.specs.Headed.{shown_head}
-use Rattle.rf_text.specs.Printable.{IsPlainLine, IsPlainFunc, IsPlainItem, IsPrintable, ids_from, IsNumbered, IsCountedItem, IsCounted, globals_in}
+use Rattle.rf_text.specs.Printable.{IsPlainLine, IsPlainFunc, IsPlainItem, IsPrintable, ids_from, IsCountedItem, globals_in}
 use Rattle.rf_text.specs.ModuleForms.{kept_at, body_forms, gap_forms, item_forms, numbered_from, more_draft_items, draft_items, printed_items}
 use Rattle.rf_text.proofs.NamedScope.{Once}
 use Rattle.rf_text.proofs.NamedPlaces.{ids_split}
 use Rattle.rf_text.proofs.NamedFound.{HasGlobals}
-use Rattle.rf_text.proofs.NamedFunction.{Stands, stands, HasLocals, has_locals, Resolves, function_again}
+use Rattle.rf_text.proofs.NamedFunction.{Stands, stands, has_locals, Resolves, function_again}
 use Rattle.rf_text.proofs.NamedTops.{tops_from, tops_once, HaveLocals, HasTops, tops_defined, globals_found}
 use Rattle.rf_text.specs.NamedItems.{ItemsAreNamed}
 
@@ -52,9 +49,12 @@ all_stand m (Kept text ∷ items) base count formed plain few ids =
 all_stand m (Opaque text ∷ items) base count formed plain few ids = All-head IsPlainItem (Opaque text) items plain
 all_stand m (FuncItem f ∷ items) base count formed plain few ids =
     let is : IsPlainFunc f = All-head IsPlainItem (FuncItem f) items plain in
-    let behind : (j : ℕ) × (ids_of_items items ≡ ids_from (base + length (item_ids (FuncItem f))) j) = ids_behind (item_ids (FuncItem f)) (ids_of_items items) base (base + length (item_ids (FuncItem f))) count refl ids in
-    (All-head (IsFormedItem m) (FuncItem f) items formed, is, stands f base (ids_of_items items) count is (All-head IsCountedItem (FuncItem f) items few) ids,
-     all_stand m items (base + length (item_ids (FuncItem f))) behind.0 (All-tail (IsFormedItem m) (FuncItem f) items formed) (All-tail IsPlainItem (FuncItem f) items plain) (All-tail IsCountedItem (FuncItem f) items few) behind.1)
+    let behind : (j : ℕ) × (ids_of_items items ≡ ids_from (base + length (item_ids (FuncItem f))) j) = ids_behind (item_ids (FuncItem f)) (ids_of_items items) base (base + length (item_ids (FuncItem f))) count refl ids in (
+      All-head (IsFormedItem m) (FuncItem f) items formed,
+      is,
+      stands f base (ids_of_items items) count is (All-head IsCountedItem (FuncItem f) items few) ids,
+      all_stand m items (base + length (item_ids (FuncItem f))) behind.0 (All-tail (IsFormedItem m) (FuncItem f) items formed) (All-tail IsPlainItem (FuncItem f) items plain) (All-tail IsCountedItem (FuncItem f) items few) behind.1,
+    )
 
 have_locals : (m : Module) (scope : Scope TopMeaning) (once : Once scope) (items : List Item) (base : ℕ) → AllStand m base items → HaveLocals scope once m.globals items
 have_locals m scope once [] base all = tt

@@ -1,5 +1,5 @@
 -- Where the things of a function stand: what is shown of each means its place or its number, and is shown of nothing else.
-use Rattle.std.proofs.Common.{◌≡◌, ℕ, suc, zero, ◌+◌, ◌^◌, ◌≤◌, ◌<◌, Bool, true, false, ◌&&◌, cond, if◌then◌else◌, List, [], ◌∷◌, ◌++◌, length, nat_eq, Option, Some, None, refl, sym, ◌∙◌, ap, arith, append_assoc, eq-eqb, eqb-true}
+use Rattle.std.proofs.Common.{◌≡◌, ℕ, suc, zero, ◌+◌, ◌^◌, ◌≤◌, ◌<◌, Bool, true, false, if◌then◌else◌, List, [], ◌∷◌, ◌++◌, length, nat_eq, Option, Some, None, refl, sym, ◌∙◌, ap, arith, append_assoc, eq-eqb, eqb-true}
 use Rattle.std.proofs.lemmas.Bool.Decides.{nat_tests}
 use Rattle.std.proofs.lemmas.List.Elements.{All-head, All-tail}
 use Rattle.std.specs.List.{All, slice_get}
@@ -132,28 +132,30 @@ module _ (base : ℕ) (scope : Scope LocalMeaning) (ns : Names) where
       ns.labels ≡ bs ++ labels_from n (named_things ts) → length bs ≡ b → n + length (named_things ts) ≤ 2 ^ 64 → All IsPlainThing ts → Placed base p ts → Once scope → Known n p b ts
   known_from n p b [] done ls bs whole locals labels many small plain placed once = tt
   known_from n p b (Gives id ty name ∷ ts) done ls bs whole locals labels many small plain placed once =
-      let l : Local = record { id = id; ty = ty; text = shown n name } in
-      (record {
-         shows = ap (local_of id) locals ∙ (value_found base (counted n name) p ls (record { id = id; ty = ty; text = shown n name }) ts placed.0 placed.1);
-         means = meant done (shown n name) (value_at p ty) (scope_from (counted n name) (p + 1) b ts) whole once;
-         placed = placed.0;
-         once_more = again n name (omega (arith, small)) (All-head IsPlainThing (Gives id ty name) ts plain);
-       },
-       known_from (counted n name) (p + 1) b ts (done ++ (shown n name, value_at p ty) ∷ []) (ls ++ l ∷ []) bs
-       (moved scope done (shown n name, value_at p ty) (scope_from (counted n name) (p + 1) b ts) whole)
-       (locals ∙ sym (append_assoc ls (l ∷ []) (locals_from (counted n name) (named_things ts)))) labels many (omega (arith, small, counted_most n name)) (All-tail IsPlainThing (Gives id ty name) ts plain) placed.1 once)
+      let l : Local = record { id = id; ty = ty; text = shown n name } in (
+        record {
+          shows = ap (local_of id) locals ∙ (value_found base (counted n name) p ls (record { id = id; ty = ty; text = shown n name }) ts placed.0 placed.1);
+          means = meant done (shown n name) (value_at p ty) (scope_from (counted n name) (p + 1) b ts) whole once;
+          placed = placed.0;
+          once_more = again n name (omega (arith, small)) (All-head IsPlainThing (Gives id ty name) ts plain);
+        },
+        known_from (counted n name) (p + 1) b ts (done ++ (shown n name, value_at p ty) ∷ []) (ls ++ l ∷ []) bs
+            (moved scope done (shown n name, value_at p ty) (scope_from (counted n name) (p + 1) b ts) whole)
+            (locals ∙ sym (append_assoc ls (l ∷ []) (locals_from (counted n name) (named_things ts)))) labels many (omega (arith, small, counted_most n name)) (All-tail IsPlainThing (Gives id ty name) ts plain) placed.1 once,
+      )
   known_from n p b (Silent id ∷ ts) done ls bs whole locals labels many small plain placed once =
       (placed.0, known_from n (p + 1) b ts done ls bs whole locals labels many small (All-tail IsPlainThing (Silent id) ts plain) placed.1 once)
-  known_from n p b (Begins name ∷ ts) done ls bs whole locals labels many small plain placed once =
-      (record {
-         shows = ap (λ (ls : List (List ℕ)). slice_get ls b) labels ∙ (slice_get-append bs (shown n name) (labels_from (counted n name) (named_things ts)) b many);
-         means = meant done (shown n name) (block_at b) (scope_from (counted n name) p (b + 1) ts) whole once;
-         once_more = again n name (omega (arith, small)) (All-head IsPlainThing (Begins name) ts plain);
-       },
-       known_from (counted n name) p (b + 1) ts (done ++ (shown n name, block_at b) ∷ []) ls (bs ++ shown n name ∷ [])
-       (moved scope done (shown n name, block_at b) (scope_from (counted n name) p (b + 1) ts) whole) locals
-       (labels ∙ sym (append_assoc bs (shown n name ∷ []) (labels_from (counted n name) (named_things ts)))) (push_length bs (shown n name) b many) (omega (arith, small, counted_most n name))
-       (All-tail IsPlainThing (Begins name) ts plain) placed once)
+  known_from n p b (Begins name ∷ ts) done ls bs whole locals labels many small plain placed once = (
+    record {
+      shows = ap (λ (ls : List (List ℕ)). slice_get ls b) labels ∙ (slice_get-append bs (shown n name) (labels_from (counted n name) (named_things ts)) b many);
+      means = meant done (shown n name) (block_at b) (scope_from (counted n name) p (b + 1) ts) whole once;
+      once_more = again n name (omega (arith, small)) (All-head IsPlainThing (Begins name) ts plain);
+    },
+    known_from (counted n name) p (b + 1) ts (done ++ (shown n name, block_at b) ∷ []) ls (bs ++ shown n name ∷ [])
+        (moved scope done (shown n name, block_at b) (scope_from (counted n name) p (b + 1) ts) whole) locals
+        (labels ∙ sym (append_assoc bs (shown n name ∷ []) (labels_from (counted n name) (named_things ts)))) (push_length bs (shown n name) b many) (omega (arith, small, counted_most n name))
+        (All-tail IsPlainThing (Begins name) ts plain) placed once,
+  )
 
   -- ---- what is found
 

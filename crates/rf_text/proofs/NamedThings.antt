@@ -1,6 +1,6 @@
 -- What a function has in order of its text: parameters and results, instructions that give nothing, and blocks. What is shown of
 -- them is a scope in which each has its place, and no name twice.
-use Rattle.std.proofs.Common.{◌≡◌, ℕ, suc, zero, ◌+◌, ◌^◌, ◌≤◌, ◌<◌, Bool, true, false, cond, List, [], ◌∷◌, ◌++◌, length, Option, Some, None, bytes_eq, refl, sym, ◌∙◌, ap, arith}
+use Rattle.std.proofs.Common.{◌≡◌, ℕ, suc, ◌+◌, ◌^◌, ◌≤◌, ◌<◌, Bool, true, false, List, [], ◌∷◌, length, Option, Some, None, bytes_eq, refl, ◌∙◌, ap, arith}
 use Rattle.std.proofs.lemmas.List.Elements.{All-head, All-tail}
 use Rattle.std.specs.List.{All, AllPairs}
 use Rattle.std.specs.Fmt.{decimal}
@@ -148,11 +148,13 @@ shown_new (Some name) n p b ts small h plain pairs = name_new name h n p b ts (o
 pub once_from : (n p b : ℕ) (ts : List Thing) → n + length (named_things ts) ≤ 2 ^ 64 → All IsPlainThing ts → AllPairs Differ (written_names (named_things ts)) → Once (scope_from n p b ts)
 once_from n p b [] small plain pairs = tt
 once_from n p b (Gives id ty name ∷ ts) small plain pairs =
-    let rest : All IsPlainThing ts = All-tail IsPlainThing (Gives id ty name) ts plain in
-    (shown_new name n (p + 1) b ts (omega (arith, small)) (All-head IsPlainThing (Gives id ty name) ts plain) rest pairs,
-     once_from (counted n name) (p + 1) b ts (omega (arith, small, counted_most n name)) rest (pairs_split name (written_names (named_things ts)) pairs))
+    let rest : All IsPlainThing ts = All-tail IsPlainThing (Gives id ty name) ts plain in (
+      shown_new name n (p + 1) b ts (omega (arith, small)) (All-head IsPlainThing (Gives id ty name) ts plain) rest pairs,
+      once_from (counted n name) (p + 1) b ts (omega (arith, small, counted_most n name)) rest (pairs_split name (written_names (named_things ts)) pairs),
+    )
 once_from n p b (Silent id ∷ ts) small plain pairs = once_from n (p + 1) b ts small (All-tail IsPlainThing (Silent id) ts plain) pairs
 once_from n p b (Begins name ∷ ts) small plain pairs =
-    let rest : All IsPlainThing ts = All-tail IsPlainThing (Begins name) ts plain in
-    (shown_new name n p (b + 1) ts (omega (arith, small)) (All-head IsPlainThing (Begins name) ts plain) rest pairs,
-     once_from (counted n name) p (b + 1) ts (omega (arith, small, counted_most n name)) rest (pairs_split name (written_names (named_things ts)) pairs))
+    let rest : All IsPlainThing ts = All-tail IsPlainThing (Begins name) ts plain in (
+      shown_new name n p (b + 1) ts (omega (arith, small)) (All-head IsPlainThing (Begins name) ts plain) rest pairs,
+      once_from (counted n name) p (b + 1) ts (omega (arith, small, counted_most n name)) rest (pairs_split name (written_names (named_things ts)) pairs),
+    )

@@ -9,16 +9,15 @@ use Rattle.ir_types.specs.declared.module.Item.TheVariants.{Kept, Opaque, Func a
 use Rattle.ir_line.specs.declared.kept.Kept.{Kept as KeptLine}
 use Rattle.ir_line.proofs.Steps.{bytes_is}
 use Rattle.ir_print.specs.Names.{names_of}
-use Rattle.ir_print.specs.Text.{is_function}
 use Rattle.ir_types_check.specs.declared.refusal.ResolveRefusal.{ResolveRefusal}
 use Rattle.ir_types_check.specs.Answers.{◌>>=◌}
-use Rattle.ir_types_check.specs.Scope.{Scope, meaning, define, of_module}
+use Rattle.ir_types_check.specs.Scope.{Scope, meaning, of_module}
 use Rattle.ir_types_check.specs.Locals.{locals_of}
-use Rattle.ir_types_check.specs.Tops.{with_top, with_global, with_symbol, signature_of, with_function, with_item, with_items}
+use Rattle.ir_types_check.specs.Tops.{with_top, with_global, with_symbol, signature_of, with_function, with_items}
 use Rattle.ir_types_check.proofs.Handed.{TopMeaning, global_at, function_of, other_top, LocalNames, TopNames}
 use Rattle.rf_text.specs.Headed.{shown_head}
 use Rattle.rf_text.specs.Printable.{in_front, global_before, globals_in, tops_in}
-use Rattle.rf_text.specs.ModuleForms.{kept_at, body_forms, item_forms, gap_forms, numbered_from, draft_item, more_draft_items}
+use Rattle.rf_text.specs.ModuleForms.{kept_at, body_forms, item_forms, gap_forms, numbered_from, more_draft_items}
 use Rattle.rf_text.proofs.NamedScope.{Once, defined, found, moved}
 use Rattle.rf_text.proofs.NamedThings.{pairs_first}
 use Rattle.rf_text.proofs.NamedPlaces.{push_length}
