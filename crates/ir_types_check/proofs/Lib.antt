@@ -1,5 +1,6 @@
 -- Lemmas that nobody need believe.
 pub mod Counts
+pub mod Handed
 pub mod Known
 pub mod NamesHold
 pub mod Rows

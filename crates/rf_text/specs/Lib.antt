@@ -3,6 +3,7 @@ pub mod Headed
 pub mod KeptParts
 pub mod LinesOf
 pub mod ModuleForms
+pub mod NamedItems
 pub mod PlacedForms
 pub mod Printable
 pub mod Printed
