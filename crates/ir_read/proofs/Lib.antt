@@ -2,4 +2,5 @@
 pub mod Answering
 pub mod LineForms
 pub mod Named
+pub mod ReadBodies
 pub mod Splitting
