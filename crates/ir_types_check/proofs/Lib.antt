@@ -1,6 +1,13 @@
 -- Lemmas that nobody need believe.
 pub mod Binding
+pub mod BodyBlocks
+pub mod BodyCases
+pub mod BodyEdges
+pub mod BodyIds
+pub mod BodyLinks
+pub mod BodyPhis
 pub mod BodyScope
+pub mod BodyTypes
 pub mod Counts
 pub mod Known
 pub mod Rows
