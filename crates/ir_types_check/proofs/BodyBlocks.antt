@@ -33,7 +33,7 @@ use Rattle.ir_types_check.proofs.BodyScope.{behind_all}
 
 -- ---- where a line stands
 
-pub is_open : Stage → Bool
+unfoldable pub is_open : Stage → Bool
 is_open stage.Front = true
 is_open stage.Behind = true
 is_open stage.Between = false
@@ -174,7 +174,7 @@ ends_more : (insts : List Inst) (i : Inst) → unended insts ≡ true → is_ter
 ends_more [] i h e = e
 ends_more (x ∷ xs) i h e = ends_at x xs i h e
 
-pub opens : Stage → ℕ
+unfoldable pub opens : Stage → ℕ
 opens stage.Front = 1
 opens stage.Behind = 1
 opens stage.Between = 0
