@@ -51,6 +51,7 @@ pub mod TextLinesNames
 pub mod TextLinesOnce
 pub mod TextLinesTyped
 pub mod TextLinesTypes
+pub mod TextsAgain
 pub mod Trimmed
 pub mod Words
 pub mod WordsNames

@@ -1,4 +1,5 @@
 -- What laws of printed and read text speak of.
+pub mod Again
 pub mod Headed
 pub mod KeptParts
 pub mod LinesOf

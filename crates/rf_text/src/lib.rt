@@ -4,12 +4,14 @@
 //! `ir_print` and of the readers; a caller that calls it has the law. Nothing here fails.
 #![tactic(auto)]
 
+mod again;
 mod instructions;
 mod named_items;
 mod outside;
 mod placed_forms;
 mod text_lines;
 
+pub use again::texts_are_read_again;
 pub use instructions::{printed_bodies, printed_braces, printed_instructions, printed_labels};
 pub use named_items::printed_items_are_named;
 pub use outside::{
