@@ -1,4 +1,5 @@
 pub mod Answering
+pub mod Bodies
 pub mod BodyLines
 pub mod CallLines
 pub mod FlagWords
@@ -13,3 +14,4 @@ pub mod SoundLines
 pub mod Steps
 pub mod Trees
 pub mod TypesOfKinds
+pub mod WholeLines

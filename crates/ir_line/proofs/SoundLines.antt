@@ -193,7 +193,7 @@ sound_form (Switch a d) ts h =
 sound_form Unreachable ts h = record { literals = none; typed = (refl, refl); places = tt }
 
 -- a call is a call
-call_is : (line : List ℕ) (ts : List Token) (l : Line) → call line ts ≡ Some l → IsCallLine l
+pub call_is : (line : List ℕ) (ts : List Token) (l : Line) → call line ts ≡ Some l → IsCallLine l
 unfolding call call_for call_behind
 call_is line ts l e =
     choose_then (one' local_of (words line ts)) _ _ l e

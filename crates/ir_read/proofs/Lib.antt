@@ -3,4 +3,5 @@ pub mod Answering
 pub mod ItemsRead
 pub mod LineForms
 pub mod Named
+pub mod ReadBodies
 pub mod Splitting

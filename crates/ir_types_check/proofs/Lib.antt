@@ -1,4 +1,6 @@
 -- Lemmas that nobody need believe.
+pub mod Binding
+pub mod BodyScope
 pub mod Counts
 pub mod Known
 pub mod NamesHold

@@ -1,0 +1,2 @@
+-- Why what is read and well typed is formed.
+pub mod Trial
