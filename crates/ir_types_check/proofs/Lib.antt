@@ -4,4 +4,5 @@ pub mod BodyScope
 pub mod Counts
 pub mod Known
 pub mod NamesHold
+pub mod ReadParts
 pub mod Rows
