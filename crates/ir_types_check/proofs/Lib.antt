@@ -4,5 +4,6 @@ pub mod BodyScope
 pub mod Counts
 pub mod Known
 pub mod NamesHold
+pub mod ReadIds
 pub mod ReadParts
 pub mod Rows
