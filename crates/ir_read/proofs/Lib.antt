@@ -4,4 +4,5 @@ pub mod ItemsRead
 pub mod LineForms
 pub mod Named
 pub mod ReadBodies
+pub mod ReadItems
 pub mod Splitting
