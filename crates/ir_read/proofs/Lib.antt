@@ -5,4 +5,5 @@ pub mod LineForms
 pub mod Named
 pub mod Placing
 pub mod ReadBodies
+pub mod ReadItems
 pub mod Splitting

@@ -15,4 +15,10 @@ pub mod Handed
 pub mod ItemsFormed
 pub mod Known
 pub mod NamesHold
+pub mod ReadIds
+pub mod ReadLinks
+pub mod ReadModule
+pub mod ReadNames
+pub mod ReadParts
+pub mod ReadTops
 pub mod Rows
