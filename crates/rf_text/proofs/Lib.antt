@@ -25,6 +25,12 @@ pub mod PartsLiterals
 pub mod PartsMemory
 pub mod PartsOperands
 pub mod PartsTypes
+pub mod ReadableForms
+pub mod ReadableHeads
+pub mod ReadableItems
+pub mod ReadableLines
+pub mod ReadableModule
+pub mod ReadableNames
 pub mod Splitting
 pub mod Trimmed
 pub mod Words

@@ -5,6 +5,7 @@ pub mod LinesOf
 pub mod ModuleForms
 pub mod Printable
 pub mod Printed
+pub mod Readable
 pub mod Reads
 pub mod Shown
 pub mod Written

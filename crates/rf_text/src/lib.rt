@@ -6,9 +6,11 @@
 
 mod instructions;
 mod outside;
+mod readable;
 
 pub use instructions::{printed_bodies, printed_braces, printed_instructions, printed_labels};
 pub use outside::{
     forms_are_of_lines, headers_again, headers_are_heads, heads_of_lines, kept_by_text,
     kept_lines_again, lines_again, params_are_shown, sound_are_lines,
 };
+pub use readable::{read_modules_are_numbered, read_modules_are_printable};

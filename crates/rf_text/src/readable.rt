@@ -1,0 +1,13 @@
+//! Laws of what was read: it can be printed and read again.
+
+ghost use Rattle.rf_text.specs.Readable.{ReadModulesArePrintable, ReadModulesAreNumbered};
+
+/// A module that a text reads as, and whose layout has the low byte first, has names and kept parts such as text can have.
+pub fn read_modules_are_printable()
+    ensures { ReadModulesArePrintable }
+{}
+
+/// The ids of a module that a text reads as are 0, 1 and so on in order of the text.
+pub fn read_modules_are_numbered()
+    ensures { ReadModulesAreNumbered }
+{}
