@@ -1,5 +1,5 @@
 -- What the forms of a module's printed lines say for the whole text: its kept lines and headers in order.
-use Rattle.std.proofs.Common.{◌≡◌, ℕ, ◌+◌, Bool, true, false, List, [], ◌∷◌, ◌++◌, Option, Some, None, refl, sym, ◌∙◌, ap, subst, append_assoc}
+use Rattle.std.proofs.Common.{◌≡◌, ℕ, ◌+◌, Bool, true, false, List, [], ◌∷◌, ◌++◌, Option, Some, None, refl, ◌∙◌, ap}
 use Rattle.std.specs.Prelude.{slice_get}
 use Rattle.ir_types.specs.declared.ty.Ty.{Ty}
 use Rattle.ir_types.specs.declared.opd.Opd.{Opd}
@@ -8,13 +8,11 @@ use Rattle.ir_types.specs.declared.op.Op.TheVariants.{Switch}
 use Rattle.ir_types.specs.declared.inst.Inst.{Inst}
 use Rattle.ir_types.specs.declared.func.Block.{Block}
 use Rattle.ir_types.specs.declared.func.Func.{Func}
-use Rattle.ir_types.specs.declared.module.Item.{Item}
 use Rattle.ir_line.specs.declared.line.Line.{Line}
 use Rattle.ir_line.specs.declared.line.Line.TheVariants as line
 use Rattle.ir_print.specs.Names.{Names, names_of}
-use Rattle.ir_print.specs.Text.{is_function}
 use Rattle.ir_read.proofs.ReadItems.{publics}
-use Rattle.rf_text.specs.Written.{first_ty, cases_of, more_forms, forms_of, stmt_of}
+use Rattle.rf_text.specs.Written.{first_ty, cases_of, more_forms}
 use Rattle.rf_text.specs.ModuleForms.{label_forms, insts_forms, more_blocks_forms, blocks_forms, body_forms, gap_forms}
 
 pub publics_append : (fs gs : List Line) → publics (fs ++ gs) ≡ publics fs ++ publics gs

@@ -1,14 +1,10 @@
 -- The items of a module that was read: each is one that text can have.
-use Rattle.std.proofs.Common.{◌≡◌, ℕ, ◌+◌, ◌⊎◌, inl, inr, Bool, true, false, cond, not, ◌&&◌, ◌||◌, List, [], ◌∷◌, ◌++◌, map, Option, Some, None, refl, sym, ◌∙◌, ap, subst, codes}
+use Rattle.std.proofs.Common.{◌≡◌, ℕ, ◌+◌, ◌⊎◌, inl, inr, Bool, true, false, cond, not, ◌&&◌, ◌||◌, List, [], ◌∷◌, ◌++◌, Option, Some, None, refl, sym, ◌∙◌, ap, subst, codes}
 use Rattle.std.proofs.lemmas.List.Elements.{All-nil, All-cons, All-head, All-tail, All-weaker, All-append}
 use Rattle.std.specs.List.{All, AllZip}
-use Rattle.std.specs.Prelude.{slice_get, unwrap_or}
 use Rattle.ir_lex.specs.Scan.{texts}
 use Rattle.ir_lex.specs.Tokens.{is_name}
 use Rattle.ir_lex.proofs.Standing.{AreWords, texts_are}
-use Rattle.ir_types.specs.declared.ty.Ty.{Ty}
-use Rattle.ir_types.specs.declared.ty.Ty.TheVariants.{Ptr}
-use Rattle.ir_types.specs.declared.op.Op.{Op}
 use Rattle.ir_types.specs.declared.opd.Opd.{Opd}
 use Rattle.ir_types.specs.declared.opd.Opd.TheVariants.{Val, Lit, Sym}
 use Rattle.ir_types.specs.declared.inst.Inst.{Inst}
@@ -30,27 +26,25 @@ use Rattle.ir_line.specs.declared.draft.DraftItem.{DraftItem}
 use Rattle.ir_line.specs.declared.draft.DraftItem.TheVariants as item
 use Rattle.ir_line.specs.Values.{symbol_of}
 use Rattle.ir_line.specs.Words.{Words, is_first}
-use Rattle.ir_line.specs.Keeping.{defined, kept_of}
+use Rattle.ir_line.specs.Keeping.{defined}
 use Rattle.ir_line.specs.Sound.{IsSound, IsCallOp, IsCallLine}
 use Rattle.ir_line.proofs.PoisonPointers.{IsPoison, PoisonArg}
 use Rattle.ir_line.proofs.Steps.{nothing}
 use Rattle.ir_print.specs.Names.{is_store, is_void}
 use Rattle.ir_read.specs.Forms.{form_in}
-use Rattle.ir_read.specs.Outlook.{has}
 use Rattle.ir_read.specs.Function.{is_barred, any_barred}
-use Rattle.ir_read.proofs.ReadItems.{IsAllowedLine, IsReadLine, IsReadFunc, IsReadItem, item_line}
-use Rattle.ir_types_check.specs.Outline.{written_name, written}
+use Rattle.ir_read.proofs.ReadItems.{IsAllowedLine, IsReadLine, IsReadItem, item_line}
+use Rattle.ir_types_check.specs.Outline.{written}
 use Rattle.ir_types_check.specs.Blocks.{params_from}
-use Rattle.ir_types_check.specs.Resolved.{if_big, big_line, or_later, big_endian_line}
+use Rattle.ir_types_check.specs.Resolved.{if_big, or_later, big_endian_line}
 use Rattle.ir_types_check.proofs.ReadParts.{EachLine, IsFineBlock}
 use Rattle.ir_types_check.proofs.ReadLinks.{IsFound, IsFineOpd, IsFineInst}
-use Rattle.ir_types_check.proofs.ReadTops.{global_part, item_globals, item_tops, draft_globals, draft_tops}
+use Rattle.ir_types_check.proofs.ReadTops.{global_part, draft_globals, draft_tops}
 use Rattle.ir_types_check.proofs.ReadNames.{onto}
 use Rattle.ir_types_check.proofs.ReadModule.{EachItem, IsFineLine, IsFineItem, IsFineName, IsFuncOf, IsItemOf}
 use Rattle.rf_text.specs.Headed.{is_local_name, is_returned, is_written, IsParam, IsHead}
 use Rattle.rf_text.specs.KeptParts.{IsKeptPart, IsBefore}
 use Rattle.rf_text.specs.Shown.{IsPoisonIfPointer, is_call}
-use Rattle.rf_text.specs.Written.{shown_global}
 use Rattle.rf_text.specs.ModuleForms.{kept_at}
 use Rattle.rf_text.specs.Printable.{is_plain, gives, IsPlainInst, IsPlainBlock, IsPlainFunc, IsPlainLine, IsPlainItem, global_before, globals_in, in_front, tops_in}
 use Rattle.rf_text.proofs.Kept.{kept_again, kept_is, kept_by_text}

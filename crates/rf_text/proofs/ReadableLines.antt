@@ -1,15 +1,14 @@
 -- What a line inside a function that is read has for names, results and literals, unless it is a call.
-use Rattle.std.proofs.Common.{◌≡◌, ℕ, ◌⊎◌, inl, inr, Bool, true, false, cond, not, ◌&&◌, ◌||◌, ◌==◌, arith, List, [], ◌∷◌, ◌++◌, take, Option, Some, None, codes, bytes_eq, refl, sym, ◌∙◌, ap, subst}
+use Rattle.std.proofs.Common.{◌≡◌, ℕ, ◌⊎◌, inl, inr, Bool, true, false, cond, not, ◌&&◌, ◌==◌, arith, List, [], ◌∷◌, Option, Some, None, refl, sym, ◌∙◌, ap, subst}
 use Rattle.std.proofs.lemmas.Bool.Decides.{nat_tests}
 use Rattle.std.proofs.lemmas.List.{append-nil}
 use Rattle.std.proofs.lemmas.List.Elements.{All-nil, All-cons}
 use Rattle.std.specs.Char.{is_ascii_digit}
 use Rattle.std.specs.List.{All, list_all}
 use Rattle.ir_lex.specs.Bytes.{quote, begins_name, is_word_byte, is_digit, is_sigil, is_mark}
-use Rattle.ir_lex.specs.Scan.{cut, texts, fault_of}
+use Rattle.ir_lex.specs.Scan.{cut, fault_of}
 use Rattle.ir_lex.specs.Tokens.{IsToken, Name, QuotedName, Unnamed, Text, Mark, Run, Single, is_name}
 use Rattle.ir_lex.specs.Words.{words}
-use Rattle.ir_lex.specs.declared.list.Token.{Token}
 use Rattle.ir_lex.proofs.Classes.{both}
 use Rattle.ir_lex.proofs.Standing.{AreWords}
 use Rattle.ir_types.specs.declared.ty.Ty.{Ty}
@@ -26,9 +25,9 @@ use Rattle.ir_line.specs.Words.{Words, when}
 use Rattle.ir_line.specs.Pieces.{Says}
 use Rattle.ir_line.specs.Forms.{Form, Label, Choice, ChoicesEnd, Binary, Compare, Convert, Select, Extract, Insert, Shuffle, Step, StepInto, Load, Allocate, Phi, Store, Return, ReturnValue, Jump, Branch, Switch, Unreachable, slots, Spell, line_of, arg}
 use Rattle.ir_line.specs.Body.{Spells, NoWord, Brace, Formed, Called, attachment_at, unattached}
-use Rattle.ir_line.specs.Sound.{IsSoundOp, IsSoundLine, IsSound, IsCallLine, IsCallOp, IsSoundUncalled, written_types}
+use Rattle.ir_line.specs.Sound.{IsSoundOp, IsSound, IsCallLine, IsCallOp, IsSoundUncalled, written_types}
 use Rattle.ir_line.proofs.BodyLines.{body_spelled}
-use Rattle.ir_line.proofs.PoisonPointers.{IsPoison, PoisonArg, operand, other, pairs_poison}
+use Rattle.ir_line.proofs.PoisonPointers.{PoisonArg, operand, other, pairs_poison}
 use Rattle.ir_line.proofs.SoundLines.{call_is, sound_line}
 use Rattle.ir_line.proofs.Steps.{nothing, some_is}
 use Rattle.ir_print.specs.Names.{is_store, is_void}

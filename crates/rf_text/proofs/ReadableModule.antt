@@ -2,7 +2,7 @@
 use Rattle.std.proofs.Common.{◌≡◌, ℕ, zero, suc, ◌+◌, Bool, true, false, List, [], ◌∷◌, ◌++◌, length, map, Option, Some, None, refl, sym, ◌∙◌, ap, subst}
 use Rattle.std.proofs.lemmas.List.Elements.{All-nil, All-cons, All-head, All-tail, All-weaker}
 use Rattle.std.specs.List.{All, AllPairs, AllZip}
-use Rattle.std.specs.Prelude.{slice_get, unwrap_or}
+use Rattle.std.specs.Prelude.{unwrap_or}
 use Rattle.ir_lex.specs.Scan.{texts}
 use Rattle.ir_types.specs.declared.id.Id.{Id}
 use Rattle.ir_types.specs.declared.opd.Opd.{Opd}
@@ -15,37 +15,32 @@ use Rattle.ir_types.specs.declared.module.Item.TheVariants as items
 use Rattle.ir_types.specs.declared.module.Module.{Module}
 use Rattle.ir_types.specs.Formed.{ids_of}
 use Rattle.ir_line.specs.declared.head.Head.{Head}
-use Rattle.ir_line.specs.declared.kept.Kept.{Kept}
 use Rattle.ir_line.specs.declared.line.Line.{Line}
-use Rattle.ir_line.specs.declared.line.Line.TheVariants as line
 use Rattle.ir_line.specs.declared.written.Written.{Written}
 use Rattle.ir_line.specs.declared.written.Written.TheVariants as written'
-use Rattle.ir_line.specs.declared.draft.Numbered.{Numbered}
 use Rattle.ir_line.specs.declared.draft.DraftItem.{DraftItem}
 use Rattle.ir_line.specs.declared.draft.DraftItem.TheVariants as item
 use Rattle.ir_line.specs.Keeping.{first_symbol, or_later}
-use Rattle.ir_print.specs.Names.{names_of}
 use Rattle.ir_print.specs.Text.{is_function}
 use Rattle.ir_read.specs.Outlook.{has}
-use Rattle.ir_read.specs.Function.{is_barred}
 use Rattle.ir_read.specs.Items.{barred_in, has_other_pointers}
 use Rattle.ir_read.proofs.ReadItems.{publics, SaySame, SeenSame, seen_same, items_read}
 use Rattle.ir_types_check.specs.Named.{Names}
 use Rattle.ir_types_check.proofs.ReadParts.{IsFineBlock}
 use Rattle.ir_types_check.proofs.ReadLinks.{IsFound}
 use Rattle.ir_types_check.proofs.ReadIds.{numbers_from, ids_in_order}
-use Rattle.ir_types_check.proofs.ReadTops.{draft_globals, draft_tops}
+use Rattle.ir_types_check.proofs.ReadTops.{draft_globals}
 use Rattle.ir_types_check.proofs.ReadModule.{IsModuleOf, module_is}
-use Rattle.rf_text.specs.Headed.{IsHead, first_name, shown_head}
+use Rattle.rf_text.specs.Headed.{IsHead, first_name}
 use Rattle.rf_text.specs.Written.{shown_global}
-use Rattle.rf_text.specs.ModuleForms.{kept_at, body_forms, item_forms, gap_forms, more_items_forms, items_forms, module_forms}
+use Rattle.rf_text.specs.ModuleForms.{kept_at, item_forms, more_items_forms, items_forms, module_forms}
 use Rattle.rf_text.specs.Printable.{has_function, IsAllowed, IsAllowedBlock, IsAllowedItem, IsPrintable, ids_from, IsNumbered}
 use Rattle.rf_text.specs.Reads.{Reads}
 use Rattle.rf_text.proofs.Kept.{kept_by_text}
 use Rattle.rf_text.proofs.HeadsFound.{head_of_line}
 use Rattle.rf_text.proofs.ReadableHeads.{first_of, name_of_line}
 use Rattle.rf_text.proofs.ReadableLines.{IsReadForm, form_is_read}
-use Rattle.rf_text.proofs.ReadableForms.{publics_append, passed, body_silent, gap_silent}
+use Rattle.rf_text.proofs.ReadableForms.{body_silent, gap_silent}
 use Rattle.rf_text.proofs.ReadableItems.{WasKept, was_kept, said_by, IsRead, IsLocal, IsFree, IsFreeStmt, free_args, items_are, IsOf, IsFunc, IsMade, IsUsed, IsNamed, items_plain, globals_are, IsSymbol, globals_named, tops_are}
 
 -- ---- what lines say for the whole text
@@ -155,7 +150,7 @@ printable_of xs m little k =
       little_endian = little;
     }
 
-pub read_printable : (bytes : List ℕ) (m : Module) → Reads bytes m → m.big_endian_line ≡ None → IsPrintable m
+read_printable : (bytes : List ℕ) (m : Module) → Reads bytes m → m.big_endian_line ≡ None → IsPrintable m
 read_printable bytes m r little =
     let xs : List DraftItem = r.items in
     let lines : List Line = map said_by xs in
@@ -183,3 +178,6 @@ read_numbered bytes m r =
     let e : (n : ℕ) × (ids_of m ≡ numbers_from 0 n) = ids_in_order r.items m r.named in
     let is : ids_of m ≡ ids_from 0 e.0 = e.1 ∙ numbers_are 0 e.0 in
     is ∙ ap (ids_from 0) (sym (ap length is ∙ ids_length 0 e.0))
+
+pub read_back : (bytes : List ℕ) (m : Module) → Reads bytes m → m.big_endian_line ≡ None → IsPrintable m × IsNumbered m
+read_back bytes m r little = (read_printable bytes m r little, read_numbered bytes m r)

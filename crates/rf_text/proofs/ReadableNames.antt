@@ -13,11 +13,11 @@ use Rattle.ir_types.specs.declared.func.Param.{Param}
 use Rattle.ir_types.specs.declared.func.Block.{Block}
 use Rattle.ir_types.specs.declared.func.Func.{Func}
 use Rattle.ir_line.specs.Values.{plain_number}
-use Rattle.ir_print.specs.Names.{Named, Value, Label, is_store, is_void, result_named, insts_named, blocks_named, params_named, named_of}
+use Rattle.ir_print.specs.Names.{Named, is_store, is_void, result_named, insts_named, blocks_named, params_named, named_of}
 use Rattle.ir_types_check.specs.Outline as outline
 use Rattle.ir_types_check.specs.Outline.{written_name, written}
 use Rattle.ir_types_check.specs.Links.{op_of}
-use Rattle.ir_types_check.proofs.ReadParts.{inst_parts, parts}
+use Rattle.ir_types_check.proofs.ReadParts.{inst_parts}
 use Rattle.ir_types_check.proofs.ReadNames.{Apart, onto, given_names, name_part, result_part, block_names}
 use Rattle.ir_types_check.proofs.ReadLinks.{FoundCases}
 use Rattle.rf_text.specs.Headed.{is_local_name, is_written}
