@@ -1,6 +1,6 @@
 -- What else is true of each line inside a function that is read, but a call: a store has no result, a symbol is written with the type of
 -- a pointer, and a phi names its labels and operands by turns.
-use Rattle.std.proofs.Common.{◌≡◌, ℕ, ◌+◌, ◌⊎◌, inl, inr, true, false, List, [], ◌∷◌, ◌++◌, Option, Some, None, refl, sym, codes}
+use Rattle.std.proofs.Common.{◌≡◌, ℕ, ◌+◌, ◌⊎◌, inl, inr, true, false, List, [], ◌∷◌, ◌++◌, None, refl, sym, codes}
 use Rattle.std.specs.List.{All}
 use Rattle.std.proofs.lemmas.List.Elements.{All-nil, All-cons}
 use Rattle.ir_lex.specs.declared.list.Token.{Token}
@@ -10,7 +10,6 @@ use Rattle.ir_types.specs.declared.op.Op.{Op}
 use Rattle.ir_types.specs.declared.op.Op.TheVariants as ops
 use Rattle.ir_types.specs.Formed.{is_store}
 use Rattle.ir_line.specs.declared.kinds.Kind.{Kind}
-use Rattle.ir_line.specs.declared.kinds.Kind.TheVariants as kind
 use Rattle.ir_line.specs.declared.written.Written.{Written}
 use Rattle.ir_line.specs.declared.written.Written.TheVariants.{Symbol}
 use Rattle.ir_line.specs.declared.written.Arg.{Arg}

@@ -1,16 +1,14 @@
 -- A draft that was read: each of its functions has a header that a line has, and a body whose lines stand where they may.
-use Rattle.std.proofs.Common.{◌≡◌, ℕ, ◌+◌, ◌<◌, ◌⊎◌, inl, inr, Bool, true, false, cond, not, ◌&&◌, ◌||◌, List, [], ◌∷◌, ◌++◌, length, Option, Some, None, Result, Ok, Err, nat_eq, refl, sym, ◌∙◌, ap, subst, arith, eqb-true, append_assoc}
+use Rattle.std.proofs.Common.{◌≡◌, ℕ, ◌+◌, ◌<◌, ◌⊎◌, inl, inr, Bool, true, false, cond, not, ◌&&◌, ◌||◌, List, [], ◌∷◌, ◌++◌, Option, Some, None, Result, Ok, Err, nat_eq, refl, sym, ◌∙◌, ap, subst, arith, eqb-true, append_assoc}
 use Rattle.std.proofs.lemmas.Bool.Decides.{nat_tests}
 use Rattle.std.proofs.lemmas.List.{append-nil}
 use Rattle.std.specs.List.{All}
 use Rattle.std.proofs.lemmas.List.Elements.{All-nil, All-push}
-use Rattle.ir_lex.specs.declared.list.Token.{Token}
 use Rattle.ir_lex.specs.Scan.{cut, fault_of}
 use Rattle.ir_types.specs.declared.op.Op.{Op}
 use Rattle.ir_types.specs.declared.op.Op.TheVariants as ops
 use Rattle.ir_types.specs.Formed.{is_phi, is_alloca}
 use Rattle.ir_line.specs.declared.head.Head.{Head}
-use Rattle.ir_line.specs.declared.kept.Kept.{Kept}
 use Rattle.ir_line.specs.declared.stmt.Stmt.{Stmt}
 use Rattle.ir_line.specs.declared.line.Line.{Line}
 use Rattle.ir_line.specs.declared.line.Line.TheVariants as line
@@ -18,8 +16,8 @@ use Rattle.ir_line.specs.declared.draft.Draft.{Draft}
 use Rattle.ir_line.specs.declared.draft.Numbered.{Numbered}
 use Rattle.ir_line.specs.declared.draft.DraftItem.{DraftItem}
 use Rattle.ir_line.specs.declared.draft.DraftItem.TheVariants as item
-use Rattle.ir_line.specs.Body.{Spells, read_body}
-use Rattle.ir_line.specs.Sound.{IsCallOp, IsCallLine, IsSoundLine, IsSoundUncalled}
+use Rattle.ir_line.specs.Body.{Spells}
+use Rattle.ir_line.specs.Sound.{IsCallOp, IsCallLine, IsSoundUncalled}
 use Rattle.ir_line.proofs.BodyLines.{body_spelled}
 use Rattle.ir_line.proofs.SoundLines.{sound_line}
 use Rattle.ir_line.proofs.WholeLines.{IsWholeLine, whole_line}
@@ -37,13 +35,13 @@ use Rattle.ir_read.specs.declared.refusal.ReadRefusal.{ReadRefusal}
 use Rattle.ir_read.specs.Answers.{◌>>=◌}
 use Rattle.ir_read.specs.Numbers.{after_name, after_result, after_params}
 use Rattle.ir_read.specs.Position.{is_between, is_cases, may_stand, spot_after, start, opened, in_first, after_label, after_stmt, after_case, after_cases, at_close}
-use Rattle.ir_read.specs.Function.{is_foreign, is_outside, any_barred, after_inst, after_line, opened_by, with_line}
+use Rattle.ir_read.specs.Function.{is_foreign, is_outside, after_inst, opened_by, with_line}
 use Rattle.ir_read.specs.Limits.{passed}
 use Rattle.ir_read.specs.Lines.{lines_of}
 use Rattle.ir_read.specs.Faults.{first_fault, unless}
 use Rattle.ir_read.specs.Forms.{form_in, form_by, sound_form, inside_after, forms_from, forms_of}
 use Rattle.ir_read.specs.Outlook.{outlook_of}
-use Rattle.ir_read.specs.Draft.{nothing_done, between, going_on, with_kept, closed, placed, line_inside, header_line, line_outside, line_at, step, within, ended, read_from, draft_in, draft_of}
+use Rattle.ir_read.specs.Draft.{nothing_done, between, going_on, with_kept, closed, line_inside, header_line, line_outside, line_at, step, within, ended, read_from, draft_of}
 
 clash : {P : Type 0} → true ≡ false → P
 clash e = cc

@@ -1,7 +1,7 @@
 -- The blocks of a function whose lines stand where they may: each ends once and has its phis first; and a way to go through the lines.
-use Rattle.std.proofs.Common.{◌≡◌, ℕ, zero, suc, ◌+◌, ◌-◌, ◌<◌, Bool, true, false, cond, not, ◌&&◌, List, [], ◌∷◌, ◌++◌, length, Option, Some, None, Result, Ok, Err, refl, sym, ◌∙◌, ap, subst, arith, length-append}
+use Rattle.std.proofs.Common.{◌≡◌, ℕ, ◌+◌, Bool, true, false, cond, not, ◌&&◌, List, [], ◌∷◌, ◌++◌, length, Option, Some, None, Ok, refl, sym, ◌∙◌, ap, subst, arith, length-append}
 use Rattle.std.specs.List.{All, list_all}
-use Rattle.std.proofs.lemmas.List.Elements.{All-nil, All-push}
+use Rattle.std.proofs.lemmas.List.Elements.{All-push}
 use Rattle.ir_types.specs.declared.ty.Ty.{Ty}
 use Rattle.ir_types.specs.declared.literal.Literal.{Literal}
 use Rattle.ir_types.specs.declared.op.Op.{Op}
@@ -21,14 +21,12 @@ use Rattle.ir_types_check.specs.declared.tops.Top.{Top}
 use Rattle.ir_types_check.specs.declared.links.Linked.{Linked}
 use Rattle.ir_types_check.specs.declared.links.Cases.{Cases}
 use Rattle.ir_types_check.specs.declared.building.Built.{Built}
-use Rattle.ir_types_check.specs.declared.refusal.ResolveRefusal.{ResolveRefusal}
-use Rattle.ir_types_check.specs.Answers.{◌>>=◌}
 use Rattle.ir_types_check.specs.Scope.{Scope}
 use Rattle.ir_types_check.specs.Outline.{opened, behind_label, behind_inst, behind, block_here}
 use Rattle.ir_types_check.specs.Links.{linked, cases_of, op_of}
 use Rattle.ir_types_check.specs.Blocks.{inst_of, closed, open_block, with_last, settled, with_inst, labelled, with_statement, built_line, built_lines}
 use Rattle.ir_types_check.specs.Typed.{with_line_edges, sources_from, line_typed, lines_typed}
-use Rattle.ir_types_check.proofs.Binding.{bind_ok, ok, ok_is, refused, both, clash}
+use Rattle.ir_types_check.proofs.Binding.{bind_ok, ok_is, both, clash}
 use Rattle.ir_types_check.proofs.BodyScope.{behind_all}
 
 -- ---- where a line stands
@@ -245,9 +243,10 @@ sim_inst st n k b inst h m = here (room st n b inst.op h m) (sort_of inst.op) wh
   here r (IsPhi t p s) =
       subst (λ x. Sim (stage_after inst.op) (begun st n) (settled x b.blocks (with_last (open_block b.current) inst) (b.lines ++ k ∷ []))) (sym t)
       (subst (λ x. Sim x (begun st n) (settled false b.blocks (with_last (open_block b.current) inst) (b.lines ++ k ∷ []))) (sym s) (record {
-        current =
-            (all_more (λ (i : Inst). not (is_terminator i.op)) (open_block b.current).insts inst r.none (ap not t),
-            all_more (λ (i : Inst). is_phi i.op) (open_block b.current).insts inst (r.front p) p);
+        current = (
+          all_more (λ (i : Inst). not (is_terminator i.op)) (open_block b.current).insts inst r.none (ap not t),
+          all_more (λ (i : Inst). is_phi i.op) (open_block b.current).insts inst (r.front p) p,
+        );
         done = h.done;
         count = r.count;
       }))

@@ -1,16 +1,14 @@
 -- The cases of a `switch` that is well typed: as many numbers as blocks, each number of the width, none twice.
-use Rattle.std.proofs.Common.{◌≡◌, ℕ, zero, suc, ◌+◌, ◌-◌, ◌^◌, ◌<◌, ◌≤◌, ◌⊎◌, inl, inr, Bool, true, false, cond, not, ◌&&◌, ◌||◌, List, [], ◌∷◌, ◌++◌, length, map, get_or, Option, Some, None, Result, Ok, Err, refl, sym, ◌∙◌, ap, subst, arith, eqb-true}
+use Rattle.std.proofs.Common.{◌≡◌, ℕ, zero, suc, ◌^◌, ◌<◌, Bool, true, false, cond, not, ◌&&◌, ◌||◌, List, [], ◌∷◌, ◌++◌, length, map, Option, Some, None, Ok, refl, sym, ◌∙◌, ap, subst, arith}
 use Rattle.std.proofs.lemmas.Bool.Decides.{Decides-eqb}
 use Rattle.std.specs.Prelude.{slice_get, unwrap_or, nat_eq}
-use Rattle.std.specs.List.{All, AllPairs, list_all, list_any}
+use Rattle.std.specs.List.{All, AllPairs, list_any}
 use Rattle.std.proofs.lemmas.List.Elements.{All-nil, All-cons, All-head, All-tail, All-map}
 use Rattle.ir_types.specs.declared.ty.Ty.{Ty}
-use Rattle.ir_types.specs.declared.ty.Ty.TheVariants.{Void, Int, Ptr, Row}
-use Rattle.ir_types.specs.declared.literal.Literal.{Literal}
+use Rattle.ir_types.specs.declared.ty.Ty.TheVariants.{Int}
 use Rattle.ir_types.specs.declared.op.Op.{Op}
 use Rattle.ir_types.specs.declared.op.Op.TheVariants as ops
 use Rattle.ir_types.specs.Typed.{IsCase}
-use Rattle.ir_line.specs.declared.written.Arg.{Arg}
 use Rattle.ir_line.specs.declared.stmt.Stmt.{Stmt}
 use Rattle.ir_line.specs.declared.line.Line.{Line}
 use Rattle.ir_line.specs.declared.line.Line.TheVariants as line
@@ -19,14 +17,13 @@ use Rattle.ir_line.specs.Sound.{IsSoundCase}
 use Rattle.ir_line.proofs.Bodies.{Stage, Stands, stage_behind, begun_behind, IsBodyFrom}
 use Rattle.ir_types_check.specs.declared.locals.Meaning.{Meaning}
 use Rattle.ir_types_check.specs.declared.links.Cases.{Cases}
-use Rattle.ir_types_check.specs.declared.refusal.ResolveRefusal.{ResolveRefusal}
-use Rattle.ir_types_check.specs.Answers.{◌>>=◌, well_typed}
+use Rattle.ir_types_check.specs.Answers.{well_typed}
 use Rattle.ir_types_check.specs.Scope.{Scope}
 use Rattle.ir_types_check.specs.Links.{lane_of, Choice, choice_before, choices, cases_of}
-use Rattle.ir_types_check.specs.Typed.{same_ty, first_ty, number_of, is_target, choice_targets, case_targets, lane_number, literal_number, case_number, with_number, choice_fits, choices_typed, cases_typed}
-use Rattle.ir_types_check.proofs.Binding.{bind_ok, ok, ok_is, refused, some_is, nothing, clash, both, not_true, typed_line}
-use Rattle.ir_types_check.proofs.BodyLinks.{AreCases, cases_are, IsKnown}
-use Rattle.ir_types_check.proofs.BodyTypes.{same_is, map_length, FitCases, FitIfSwitch}
+use Rattle.ir_types_check.specs.Typed.{same_ty, first_ty, number_of, is_target, choice_targets, case_targets, lane_number, case_number, with_number, choice_fits, choices_typed, cases_typed}
+use Rattle.ir_types_check.proofs.Binding.{bind_ok, some_is, clash, both, not_true, typed_line}
+use Rattle.ir_types_check.proofs.BodyLinks.{AreCases, cases_are}
+use Rattle.ir_types_check.proofs.BodyTypes.{same_is, map_length, FitIfSwitch}
 
 abbrev IsSoundChoice : Choice → Type 0
 IsSoundChoice c = IsSoundCase c.value
@@ -157,10 +154,12 @@ pub cases_fit : (locals : Scope Meaning) (st : Stage) (n : ℕ) (s : Stmt) (op :
 cases_fit locals st n s (ops.Switch other values to) rest cases u body is typed =
     let r : AreCases locals (choices rest) (record { values = []; to = [] }) cases = cases_are locals (record { values = []; to = [] }) (choices rest) cases is in
     let f : FitChoices locals (first_ty s.args) [] (choices rest) = fit_choices locals (first_ty s.args) [] (choices rest) u typed in
-    let sound : All IsSoundChoice (choices rest) = choices_sound st n rest body in
-    (λ w t. record {
-      many = ap length r.values ∙ map_length (λ (c : Choice). lane_of c.value) (choices rest) ∙ sym (map_length (λ (c : Choice). number_of locals c.label) (choices rest)) ∙ sym (ap length r.to);
-      each = subst (All (IsCase w)) (sym r.values) (values_fit w (first_ty s.args) (choices rest) t sound f.types);
-      once = subst (AllPairs (λ (a b : Option ℕ). a ≡ b → ⊥)) (sym (r.values ∙ lanes_are (choices rest) sound)) (apart (map case_number (choices rest)) f.once);
-    }, f.targets)
+    let sound : All IsSoundChoice (choices rest) = choices_sound st n rest body in (
+      λ w t. record {
+        many = ap length r.values ∙ map_length (λ (c : Choice). lane_of c.value) (choices rest) ∙ sym (map_length (λ (c : Choice). number_of locals c.label) (choices rest)) ∙ sym (ap length r.to);
+        each = subst (All (IsCase w)) (sym r.values) (values_fit w (first_ty s.args) (choices rest) t sound f.types);
+        once = subst (AllPairs (λ (a b : Option ℕ). a ≡ b → ⊥)) (sym (r.values ∙ lanes_are (choices rest) sound)) (apart (map case_number (choices rest)) f.once);
+      },
+      f.targets,
+    )
 cases_fit locals st n s _ rest cases u body is typed = (tt, All-nil (λ t. is_target t ≡ true))

@@ -1,9 +1,9 @@
 -- The edges of a function: for two blocks, the second has the first among its sources as often as the first has the second among its targets.
-use Rattle.std.proofs.Common.{◌≡◌, ℕ, zero, suc, ◌+◌, ◌-◌, ◌<◌, ◌≤◌, Bool, true, false, cond, not, ◌&&◌, ◌==◌, List, [], ◌∷◌, ◌++◌, length, map, get_or, Option, Some, None, refl, sym, ◌∙◌, ap, subst, arith, append_assoc, length-append, length-set}
+use Rattle.std.proofs.Common.{◌≡◌, ℕ, zero, suc, ◌+◌, ◌-◌, ◌<◌, Bool, true, false, cond, not, ◌==◌, List, [], ◌∷◌, ◌++◌, length, map, refl, sym, ◌∙◌, ap, subst, arith, append_assoc, length-set}
 use Rattle.std.proofs.lemmas.Bool.Decides.{Decides-eqb}
 use Rattle.std.proofs.lemmas.List.{append-nil}
 use Rattle.std.proofs.lemmas.List.Sums.{sum_by-append}
-use Rattle.std.specs.Prelude.{slice_get, slice_set, unwrap_or, slice_index_or, replicate, nat_eq}
+use Rattle.std.specs.Prelude.{slice_get, slice_set, replicate, nat_eq}
 use Rattle.std.specs.List.{All, count_by}
 use Rattle.std.proofs.lemmas.List.Elements.{All-head, All-tail}
 use Rattle.ir_types.specs.declared.ty.Ty.{Ty}
@@ -14,19 +14,17 @@ use Rattle.ir_types.specs.declared.func.Block.{Block}
 use Rattle.ir_types.specs.Available.{op_targets, targets_of, block_targets}
 use Rattle.ir_types.specs.Walks.{targets_at}
 use Rattle.ir_types.specs.Formed.{is_terminator, ends_from, EndsOnce}
-use Rattle.ir_line.specs.declared.stmt.Stmt.{Stmt}
-use Rattle.ir_line.specs.declared.line.Line.TheVariants as line
 use Rattle.ir_line.specs.declared.draft.Numbered.{Numbered}
 use Rattle.ir_types_check.specs.declared.outline.At.{At}
 use Rattle.ir_types_check.specs.declared.locals.Meaning.{Meaning}
 use Rattle.ir_types_check.specs.declared.tops.Top.{Top}
 use Rattle.ir_types_check.specs.declared.building.Built.{Built}
 use Rattle.ir_types_check.specs.Scope.{Scope}
-use Rattle.ir_types_check.specs.Outline.{opened, behind_label, behind_inst, block_here}
+use Rattle.ir_types_check.specs.Outline.{block_here}
 use Rattle.ir_types_check.specs.Blocks.{closed, open_block, with_last, settled, with_inst, labelled}
-use Rattle.ir_types_check.specs.Typed.{targets, case_targets, sources_at, with_edge, with_edges, with_line_edges, count}
-use Rattle.ir_types_check.proofs.Binding.{some_is, nothing, clash, both, not_true}
-use Rattle.ir_types_check.proofs.BodyBlocks.{IsInst, IsStep, Stays, IsWholeBlock}
+use Rattle.ir_types_check.specs.Typed.{targets, case_targets, sources_at, with_edge, with_edges, count}
+use Rattle.ir_types_check.proofs.Binding.{clash, both, not_true}
+use Rattle.ir_types_check.proofs.BodyBlocks.{IsInst, Stays, IsWholeBlock}
 use Rattle.ir_types_check.proofs.BodyLinks.{AreTargets, targets_are, AreLinked, links_are}
 
 -- how often a list has a block

@@ -1,24 +1,20 @@
 -- A function that was read, whose names are known and whose lines are well typed, is formed; and its ids are one number after the other.
-use Rattle.std.proofs.Common.{◌≡◌, ℕ, zero, suc, ◌+◌, ◌<◌, ◌≤◌, ◌⊎◌, inl, inr, Bool, true, false, not, ◌&&◌, ◌==◌, List, [], ◌∷◌, ◌++◌, length, map, Option, Some, None, Result, Ok, Err, refl, sym, ◌∙◌, ap, subst, arith, append_assoc, length-append}
+use Rattle.std.proofs.Common.{◌≡◌, ℕ, zero, suc, ◌+◌, ◌<◌, ◌⊎◌, inl, inr, Bool, true, false, List, [], ◌∷◌, ◌++◌, length, Option, Some, None, Ok, refl, sym, ◌∙◌, ap, subst, arith}
 use Rattle.std.proofs.lemmas.Option.{slice_get_within, get_or_from_slice_get}
 use Rattle.std.proofs.lemmas.List.{append-nil, length-replicate}
 use Rattle.std.specs.Prelude.{slice_get, replicate, nat_lt}
 use Rattle.std.specs.List.{All}
 use Rattle.std.proofs.lemmas.List.Elements.{All-nil, All-cons, All-head, All-tail, All-push}
-use Rattle.ir_types.specs.declared.id.Id.{Id}
 use Rattle.ir_types.specs.declared.ty.Ty.{Ty}
 use Rattle.ir_types.specs.declared.ty.Ty.TheVariants.{Void}
-use Rattle.ir_types.specs.declared.literal.Literal.{Literal}
 use Rattle.ir_types.specs.declared.inst.Inst.{Inst}
 use Rattle.ir_types.specs.declared.func.Param.{Param}
 use Rattle.ir_types.specs.declared.func.Block.{Block}
 use Rattle.ir_types.specs.declared.func.Func.{Func}
 use Rattle.ir_types.specs.declared.module.Item.TheVariants.{Func as FuncItem}
 use Rattle.ir_types.specs.declared.module.Module.{Module}
-use Rattle.ir_types.specs.Available.{block_targets, graph_of}
-use Rattle.ir_types.specs.Walks.{targets_at}
 use Rattle.ir_types.specs.Typed.{is_value}
-use Rattle.ir_types.specs.Formed.{or_else, ty_in_blocks, ty_in_params, value_ty, block_ids, item_ids, is_terminator, IsFormedInst, IsFormedBlock, IsFormedFunc}
+use Rattle.ir_types.specs.Formed.{or_else, ty_in_blocks, value_ty, block_ids, item_ids, is_terminator, IsFormedInst, IsFormedFunc}
 use Rattle.ir_line.specs.declared.head.Head.{Head}
 use Rattle.ir_line.specs.declared.stmt.Stmt.{Stmt}
 use Rattle.ir_line.specs.declared.line.Line.TheVariants as line
@@ -32,16 +28,15 @@ use Rattle.ir_types_check.specs.declared.locals.Locals.{Locals}
 use Rattle.ir_types_check.specs.declared.tops.Top.{Top}
 use Rattle.ir_types_check.specs.declared.tops.Top.TheVariants.{Global}
 use Rattle.ir_types_check.specs.declared.building.Built.{Built}
-use Rattle.ir_types_check.specs.Answers.{◌>>=◌}
 use Rattle.ir_types_check.specs.Scope.{Scope, meaning}
 use Rattle.ir_types_check.specs.Outline.{start, opened, behind_inst}
-use Rattle.ir_types_check.specs.Locals.{with_params, with_lines, locals_of}
+use Rattle.ir_types_check.specs.Locals.{with_params, locals_of}
 use Rattle.ir_types_check.specs.Blocks.{id_of, closed, open_block, with_last, settled, with_inst, labelled, params_from, param_lines, func_of, built_lines, built_of}
 use Rattle.ir_types_check.specs.Typed.{sources_at, count, sources_of, lines_typed, with_line_edges}
 use Rattle.ir_types_check.proofs.Binding.{bind_ok, nothing}
 use Rattle.ir_types_check.proofs.BodyScope.{stmt_tys, param_tys, IsScope, Grows, params_grow, lines_grow, behind_all}
 use Rattle.ir_types_check.proofs.BodyBlocks.{AtStage, begun_all, at_end, is_open, opens, IsWholeBlock, Sim, Ended, IsStep, Stays, goes}
-use Rattle.ir_types_check.proofs.BodyTypes.{IsThere, map_length}
+use Rattle.ir_types_check.proofs.BodyTypes.{map_length}
 use Rattle.ir_types_check.proofs.BodyIds.{flat, all_insts, AreCounted, Counting, counting, in_flat, in_counted, in_params, past_params, ids_from, ids_append, counted_ids, flat_ids, param_ids, length_param_lines}
 use Rattle.ir_types_check.proofs.BodyEdges.{hits, row_at, Edged, edged, graph_rows, no_sources, no_rows}
 use Rattle.ir_types_check.proofs.BodyInsts.{IsWholeFunc, formed_inst}
@@ -144,7 +139,6 @@ pub record FormedFunc (m : Module) (base : ℕ) (func : Func) (lines : List ℕ)
 
 module _ (m : Module) (tops : Scope Top) (globals : (name : List ℕ) (g : ℕ) → meaning name tops ≡ Some (Global g) → nat_lt g (length m.globals) ≡ true)
     (n : ℕ) (lines : List ℕ) (head : Head) (body : List Numbered) (types : HasTypes head) (is : IsBody body) where
-
   -- the locals
   record LocalsAre (l : Locals) : Type 0 where
     values : (name : List ℕ) (place : ℕ) (ty : Ty) → meaning name l.scope ≡ Some (Value place ty) →
@@ -161,9 +155,9 @@ module _ (m : Module) (tops : Scope Top) (globals : (name : List ℕ) (g : ℕ) 
       let many : length (param_tys head.params) ≡ length head.params = map_length (λ (p : Param). p.ty) head.params in
       record {
         values = λ name place ty e. elim (h.0.values name place ty e) [
-            inl old ↦ elim (g.0.values name place ty old) [ inl none ↦ nothing none | inr new ↦ inl (new.0, omega (arith, new.1), new.2) ]
+          | inl old ↦ elim (g.0.values name place ty old) [ inl none ↦ nothing none | inr new ↦ inl (new.0, omega (arith, new.1), new.2) ]
           | inr new ↦ inr (new.0, omega (arith, new.1, g.0.place, many), new.2)
-          ];
+        ];
         scoped = h.0.scoped (g.0.scoped (record { below = λ name k e. nothing e; once = λ x y k e f. nothing e }));
         blocks = ap (λ (x : At). x.blocks) h.1 ∙ at_end stage.Between 0 lp.at body (record { blocks = g.1; opens = g.2 }) is;
       })
@@ -193,7 +187,6 @@ module _ (m : Module) (tops : Scope Top) (globals : (name : List ℕ) (g : ℕ) 
 
   built_is : (l : Locals) (b : Built) (u : Unit {0}) → LocalsAre l → built_lines tops l.scope base begin body ≡ Ok b → lines_typed tops l.scope head.ret (sources_of l body) start body ≡ Ok u → BuiltIs l b
   built_is l b u known built typed =
-      let k : ℕ = base + length head.params in
       let zero_lines : length (param_lines n lines head.params) ≡ length lines + length head.params = length_param_lines n lines head.params in
       let counted : Counting (base + length head.params) (stmt_tys body) (behind_all start body) _ b [] × Ended b (begun_all stage.Between 0 body) =
       goes tops l.scope head.ret (sources_of l body) base (Counting (base + length head.params) (stmt_tys body)) (counting tops l.scope head.ret (sources_of l body) base (base + length head.params) (stmt_tys body))

@@ -1,11 +1,10 @@
 -- The ids of a function: its parameters and instructions have one number after the other, so each value has the type at its place.
-use Rattle.std.proofs.Common.{◌≡◌, ℕ, zero, suc, ◌+◌, ◌<◌, ◌≤◌, ◌⊎◌, inl, inr, Bool, true, false, cond, not, ◌&&◌, ◌==◌, List, [], ◌∷◌, ◌++◌, length, map, Option, Some, None, Result, Ok, Err, refl, sym, ◌∙◌, ap, subst, arith, append_assoc, length-append}
-use Rattle.std.proofs.lemmas.Bool.Decides.{Decides-eqb, nat_tests}
+use Rattle.std.proofs.Common.{◌≡◌, ℕ, zero, suc, ◌+◌, ◌≤◌, Bool, true, false, ◌==◌, List, [], ◌∷◌, ◌++◌, length, map, Option, Some, None, refl, sym, ◌∙◌, ap, subst, arith, append_assoc, length-append}
+use Rattle.std.proofs.lemmas.Bool.Decides.{Decides-eqb}
 use Rattle.std.proofs.lemmas.List.{append-nil}
 use Rattle.std.specs.Prelude.{slice_get, if◌then◌else◌}
 use Rattle.ir_types.specs.declared.id.Id.{Id}
 use Rattle.ir_types.specs.declared.ty.Ty.{Ty}
-use Rattle.ir_types.specs.declared.literal.Literal.{Literal}
 use Rattle.ir_types.specs.declared.op.Op.{Op}
 use Rattle.ir_types.specs.declared.op.Op.TheVariants as ops
 use Rattle.ir_types.specs.declared.inst.Inst.{Inst}
@@ -13,8 +12,6 @@ use Rattle.ir_types.specs.declared.func.Param.{Param}
 use Rattle.ir_types.specs.declared.func.Block.{Block}
 use Rattle.ir_types.specs.Available.{same_id}
 use Rattle.ir_types.specs.Formed.{is_terminator, given_ty, ty_in_insts, or_else, ty_in_blocks, ty_in_params, block_ids}
-use Rattle.ir_line.specs.declared.stmt.Stmt.{Stmt}
-use Rattle.ir_line.specs.declared.line.Line.TheVariants as line
 use Rattle.ir_line.specs.declared.draft.Numbered.{Numbered}
 use Rattle.ir_types_check.specs.declared.outline.At.{At}
 use Rattle.ir_types_check.specs.declared.locals.Meaning.{Meaning}
@@ -22,13 +19,11 @@ use Rattle.ir_types_check.specs.declared.tops.Top.{Top}
 use Rattle.ir_types_check.specs.declared.links.Cases.{Cases}
 use Rattle.ir_types_check.specs.declared.building.Built.{Built}
 use Rattle.ir_types_check.specs.Scope.{Scope}
-use Rattle.ir_types_check.specs.Outline.{opened, behind_label, behind_inst}
 use Rattle.ir_types_check.specs.Links.{op_of}
-use Rattle.ir_types_check.specs.Blocks.{id_of, closed, open_block, with_last, settled, with_inst, labelled, param_of, params_from, param_lines}
-use Rattle.ir_types_check.specs.Typed.{with_line_edges}
-use Rattle.ir_types_check.proofs.Binding.{some_is, nothing, clash}
+use Rattle.ir_types_check.specs.Blocks.{id_of, closed, open_block, with_last, settled, with_inst, labelled, params_from, param_lines}
+use Rattle.ir_types_check.proofs.Binding.{nothing}
 use Rattle.ir_types_check.proofs.BodyScope.{stmt_tys, param_tys}
-use Rattle.ir_types_check.proofs.BodyBlocks.{IsInst, IsStep, Stays}
+use Rattle.ir_types_check.proofs.BodyBlocks.{IsInst, Stays}
 
 -- ---- instructions in order
 

@@ -1,11 +1,9 @@
 -- The instruction that a well typed statement is, in a function whose values, blocks and edges are those of its lines, is formed.
-use Rattle.std.proofs.Common.{◌≡◌, ℕ, zero, suc, ◌+◌, ◌<◌, Bool, true, false, not, ◌&&◌, ◌==◌, List, [], ◌∷◌, ◌++◌, length, map, Option, Some, None, Result, Ok, Err, refl, sym, ◌∙◌, ap, subst, arith}
+use Rattle.std.proofs.Common.{◌≡◌, ℕ, ◌<◌, Bool, true, ◌&&◌, List, [], ◌∷◌, length, map, Option, refl, sym, ◌∙◌, ap, subst, arith}
 use Rattle.std.proofs.lemmas.Bool.Decides.{nat_tests}
-use Rattle.std.specs.Prelude.{slice_get, nat_eq}
-use Rattle.std.specs.List.{All, AllZip, list_all}
+use Rattle.std.specs.List.{All, list_all}
 use Rattle.std.proofs.lemmas.List.Elements.{All-nil, All-cons, All-append}
 use Rattle.ir_types.specs.declared.ty.Ty.{Ty}
-use Rattle.ir_types.specs.declared.opd.Opd.{Opd}
 use Rattle.ir_types.specs.declared.op.Op.{Op}
 use Rattle.ir_types.specs.declared.op.Op.TheVariants as ops
 use Rattle.ir_types.specs.declared.inst.Inst.{Inst}
@@ -15,27 +13,25 @@ use Rattle.ir_types.specs.Available.{op_targets, graph_of}
 use Rattle.ir_types.specs.Walks.{targets_at}
 use Rattle.ir_types.specs.Typed.{IsTyped}
 use Rattle.ir_types.specs.Formed.{opd_ty, IsOpd, is_alloca, IsTarget, IsIncoming, IsCalling, IsFormedInst}
-use Rattle.ir_line.specs.declared.written.Arg.{Arg}
 use Rattle.ir_line.specs.declared.stmt.Stmt.{Stmt}
-use Rattle.ir_line.specs.declared.line.Line.TheVariants as line
 use Rattle.ir_line.specs.declared.draft.Numbered.{Numbered}
 use Rattle.ir_line.specs.Sound.{HasPlaces, IsCallOp, written_types}
 use Rattle.ir_line.proofs.WholeLines.{ArePlaced}
-use Rattle.ir_line.proofs.Bodies.{Stage, stage_after, begun}
+use Rattle.ir_line.proofs.Bodies.{stage_after, begun}
 use Rattle.ir_types_check.specs.declared.outline.At.{At}
 use Rattle.ir_types_check.specs.declared.locals.Meaning.{Meaning}
 use Rattle.ir_types_check.specs.declared.tops.Top.{Top}
 use Rattle.ir_types_check.specs.declared.links.Linked.{Linked}
 use Rattle.ir_types_check.specs.declared.links.Cases.{Cases}
 use Rattle.ir_types_check.specs.declared.building.Built.{Built}
-use Rattle.ir_types_check.specs.Answers.{◌>>=◌, well_typed}
+use Rattle.ir_types_check.specs.Answers.{well_typed}
 use Rattle.ir_types_check.specs.Scope.{Scope}
 use Rattle.ir_types_check.specs.Outline.{block_here}
-use Rattle.ir_types_check.specs.Links.{block_at, op_of}
-use Rattle.ir_types_check.specs.Typed.{arg_fits, number_at, targets, is_target, case_targets, sources_at, count, same_blocks, agree, phi_fits, op_fits, stmt_fits, cases_typed, line_typed}
-use Rattle.ir_types_check.proofs.Binding.{bind_ok, ok_is, clash, both, typed_line}
+use Rattle.ir_types_check.specs.Links.{op_of}
+use Rattle.ir_types_check.specs.Typed.{arg_fits, number_at, targets, is_target, case_targets, sources_at, count, same_blocks, agree, op_fits, stmt_fits}
+use Rattle.ir_types_check.proofs.Binding.{bind_ok, both, typed_line}
 use Rattle.ir_types_check.proofs.BodyBlocks.{IsInst, IsStep}
-use Rattle.ir_types_check.proofs.BodyLinks.{Means, IsKnown, IsOpdOf, AreLinked, links_are, AreTargets, targets_are}
+use Rattle.ir_types_check.proofs.BodyLinks.{Means, IsKnown, AreLinked, links_are, AreTargets, targets_are}
 use Rattle.ir_types_check.proofs.BodyTypes.{IsThere, opds_typed, FitIfSwitch, op_typed}
 use Rattle.ir_types_check.proofs.BodyCases.{cases_fit}
 use Rattle.ir_types_check.proofs.BodyEdges.{hits}
@@ -86,9 +82,10 @@ module _ (m : Module) (func : Func) (tops : Scope Top) (locals : Scope Meaning) 
       let a : (is_target here && same_blocks (map (number_at locals s.labels) places) (sources_at edges here) ≡ true) × (agree [] s.labels s.args ≡ true) =
       both (is_target here && same_blocks (map (number_at locals s.labels) places) (sources_at edges here)) (agree [] s.labels s.args) e in
       let b : (is_target here ≡ true) × (same_blocks (map (number_at locals s.labels) places) (sources_at edges here) ≡ true) =
-      both (is_target here) (same_blocks (map (number_at locals s.labels) places) (sources_at edges here)) a.0 in
-      (λ c. incoming_counts locals s.labels l.blocks places (sources_at edges here) links.blocks has b.1 c ∙ w.edged c here less,
-      λ i j k. bring_equal tops locals base n s.labels s.args l.blocks l.opds places placed links.blocks links.opds w.once a.1 i j k)
+      both (is_target here) (same_blocks (map (number_at locals s.labels) places) (sources_at edges here)) a.0 in (
+        λ c. incoming_counts locals s.labels l.blocks places (sources_at edges here) links.blocks has b.1 c ∙ w.edged c here less,
+        λ i j k. bring_equal tops locals base n s.labels s.args l.blocks l.opds places placed links.blocks links.opds w.once a.1 i j k,
+      )
   incoming_fits n here s l cases (ops.Br to) less links has placed e = tt
   incoming_fits n here s l cases (ops.CondBr first second) less links has placed e = tt
   incoming_fits n here s l cases (ops.Switch other values to) less links has placed e = tt

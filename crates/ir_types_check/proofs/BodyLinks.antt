@@ -1,15 +1,13 @@
 -- What the names of a statement stand for, one by one; and its targets, which are blocks of the function.
-use Rattle.std.proofs.Common.{◌≡◌, ℕ, zero, suc, ◌+◌, ◌<◌, ◌≤◌, Bool, true, false, cond, not, ◌&&◌, List, [], ◌∷◌, ◌++◌, length, map, Option, Some, None, Result, Ok, Err, refl, sym, ◌∙◌, ap, subst, arith, append_assoc}
+use Rattle.std.proofs.Common.{◌≡◌, ℕ, zero, suc, ◌+◌, ◌<◌, List, [], ◌∷◌, ◌++◌, length, map, Option, Some, None, Ok, refl, sym, ◌∙◌, ap, subst, arith, append_assoc}
 use Rattle.std.proofs.lemmas.List.{append-nil}
 use Rattle.std.specs.Prelude.{slice_get, unwrap_or}
-use Rattle.std.specs.List.{All, AllZip, list_all}
-use Rattle.std.proofs.lemmas.List.Elements.{All-nil, All-cons, All-append}
+use Rattle.std.specs.List.{All, AllZip}
+use Rattle.std.proofs.lemmas.List.Elements.{All-nil, All-cons}
 use Rattle.ir_types.specs.declared.opd.Opd.{Opd}
-use Rattle.ir_types.specs.declared.opd.Opd.TheVariants.{Val, Lit, Sym}
 use Rattle.ir_types.specs.declared.op.Op.{Op}
 use Rattle.ir_types.specs.declared.op.Op.TheVariants as ops
 use Rattle.ir_types.specs.Available.{op_targets}
-use Rattle.ir_line.specs.declared.written.Written.{Written}
 use Rattle.ir_line.specs.declared.written.Arg.{Arg}
 use Rattle.ir_line.specs.declared.stmt.Stmt.{Stmt}
 use Rattle.ir_line.specs.declared.draft.Numbered.{Numbered}
@@ -20,12 +18,10 @@ use Rattle.ir_types_check.specs.declared.locals.Meaning.TheVariants.{Value, Bloc
 use Rattle.ir_types_check.specs.declared.tops.Top.{Top}
 use Rattle.ir_types_check.specs.declared.links.Linked.{Linked}
 use Rattle.ir_types_check.specs.declared.links.Cases.{Cases}
-use Rattle.ir_types_check.specs.declared.refusal.ResolveRefusal.{ResolveRefusal}
-use Rattle.ir_types_check.specs.Answers.{◌>>=◌}
 use Rattle.ir_types_check.specs.Scope.{Scope, meaning}
 use Rattle.ir_types_check.specs.Links.{block_of, opd_of, opds_onto, blocks_onto, in_order, with_pair, pairs_onto, linked_by, linked, lane_of, Choice, choices, with_choice, cases_onto, cases_of, block_at, op_of}
 use Rattle.ir_types_check.specs.Typed.{number_in, number_of, number_at, targets, choice_targets, case_targets}
-use Rattle.ir_types_check.proofs.Binding.{bind_ok, ok, ok_is, refused, some_is, nothing, clash}
+use Rattle.ir_types_check.proofs.Binding.{bind_ok, ok_is, refused}
 
 -- ---- blocks
 

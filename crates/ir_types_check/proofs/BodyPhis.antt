@@ -1,25 +1,21 @@
 -- A phi that is well typed: its incoming blocks are the sources of its block, and equal ones bring equal operands.
-use Rattle.std.proofs.Common.{◌≡◌, ℕ, zero, suc, ◌+◌, ◌<◌, Bool, true, false, cond, not, ◌&&◌, ◌==◌, List, [], ◌∷◌, ◌++◌, length, map, Option, Some, None, Result, Ok, Err, refl, sym, ◌∙◌, ap, subst, arith, bytes_eq, eqb-true}
+use Rattle.std.proofs.Common.{◌≡◌, ℕ, zero, suc, ◌+◌, ◌<◌, Bool, true, false, cond, List, [], ◌∷◌, ◌++◌, length, map, Option, Some, None, refl, sym, ◌∙◌, ap, subst, arith, bytes_eq, eqb-true}
 use Rattle.std.proofs.lemmas.Slice.Eq.{bytes_eq-Decides}
-use Rattle.std.specs.Prelude.{slice_get, unwrap_or, nat_eq}
-use Rattle.std.specs.List.{All, AllZip, count_by}
-use Rattle.std.specs.Map.{lookup}
+use Rattle.std.specs.Prelude.{slice_get, unwrap_or}
+use Rattle.std.specs.List.{All, AllZip}
 use Rattle.std.proofs.lemmas.List.Elements.{All-head, All-tail}
 use Rattle.ir_types.specs.declared.literal.Literal.{Literal}
 use Rattle.ir_types.specs.declared.opd.Opd.{Opd}
 use Rattle.ir_line.specs.declared.written.Written.{Written}
 use Rattle.ir_line.specs.declared.written.Written.TheVariants as written
 use Rattle.ir_line.specs.declared.written.Arg.{Arg}
-use Rattle.ir_line.specs.declared.stmt.Stmt.{Stmt}
 use Rattle.ir_line.proofs.WholeLines.{ArePairsFrom}
 use Rattle.ir_types_check.specs.declared.locals.Meaning.{Meaning}
-use Rattle.ir_types_check.specs.declared.locals.Meaning.TheVariants.{Value, Block}
 use Rattle.ir_types_check.specs.declared.tops.Top.{Top}
-use Rattle.ir_types_check.specs.declared.refusal.ResolveRefusal.{ResolveRefusal}
 use Rattle.ir_types_check.specs.Scope.{Scope, meaning}
 use Rattle.ir_types_check.specs.Links.{opd_of, block_at}
-use Rattle.ir_types_check.specs.Typed.{number_at, is_target, sources_at, count, same_blocks, same_ty, same_lane, same_lanes, same_literal, same_opd, is_brought, with_brought, agree, phi_fits}
-use Rattle.ir_types_check.proofs.Binding.{ok, ok_is, refused, some_is, nothing, clash, both}
+use Rattle.ir_types_check.specs.Typed.{number_at, count, same_blocks, same_ty, same_lane, same_lanes, same_literal, same_opd, is_brought, with_brought, agree}
+use Rattle.ir_types_check.proofs.Binding.{ok, ok_is, some_is, nothing, clash, both}
 use Rattle.ir_types_check.proofs.Counts.{counts_equal}
 use Rattle.ir_types_check.proofs.BodyLinks.{Means, IsOpdOf, number_is}
 use Rattle.ir_types_check.proofs.BodyTypes.{same_is}

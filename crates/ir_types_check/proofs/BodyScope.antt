@@ -1,32 +1,27 @@
 -- The names of a function: what a value's name means has the type that stands at its place, and no two names mean one block.
-use Rattle.std.proofs.Common.{◌≡◌, ℕ, zero, suc, ◌+◌, ◌<◌, ◌⊎◌, inl, inr, Bool, true, false, cond, not, List, [], ◌∷◌, ◌++◌, length, map, Option, Some, None, Result, Ok, Err, refl, sym, ◌∙◌, ap, subst, arith, bytes_eq, length-append}
+use Rattle.std.proofs.Common.{◌≡◌, ℕ, zero, suc, ◌+◌, ◌<◌, ◌⊎◌, inl, inr, Bool, true, false, cond, List, [], ◌∷◌, ◌++◌, length, map, Option, Some, None, Ok, refl, sym, ◌∙◌, ap, subst, arith, bytes_eq, length-append}
 use Rattle.std.specs.Prelude.{slice_get}
 use Rattle.std.specs.Fmt.{decimal}
-use Rattle.std.specs.Map.{lookup}
 use Rattle.std.specs.Option.{is_some}
 use Rattle.std.proofs.lemmas.Slice.Eq.{bytes_eq-Decides}
 use Rattle.ir_types.specs.declared.ty.Ty.{Ty}
 use Rattle.ir_types.specs.declared.op.Op.{Op}
 use Rattle.ir_types.specs.declared.op.Op.TheVariants as ops
 use Rattle.ir_types.specs.declared.func.Param.{Param}
-use Rattle.ir_types.specs.Formed.{given_ty, is_store, is_terminator}
-use Rattle.ir_line.specs.declared.head.Head.{Head}
+use Rattle.ir_types.specs.Formed.{given_ty, is_store}
 use Rattle.ir_line.specs.declared.stmt.Stmt.{Stmt}
 use Rattle.ir_line.specs.declared.line.Line.{Line}
 use Rattle.ir_line.specs.declared.line.Line.TheVariants as line
 use Rattle.ir_line.specs.declared.draft.Numbered.{Numbered}
-use Rattle.ir_line.proofs.Bodies as stage
-use Rattle.ir_line.proofs.Bodies.{Stage, stage_after, begun, IsStmtAt, Stands, stage_behind, begun_behind, IsBodyFrom, IsBody}
+use Rattle.ir_line.proofs.Bodies.{Stage, Stands, stage_behind, begun_behind, IsBodyFrom}
 use Rattle.ir_types_check.specs.declared.outline.At.{At}
 use Rattle.ir_types_check.specs.declared.locals.Meaning.{Meaning}
 use Rattle.ir_types_check.specs.declared.locals.Meaning.TheVariants.{Value, Block}
 use Rattle.ir_types_check.specs.declared.locals.Locals.{Locals}
-use Rattle.ir_types_check.specs.declared.refusal.ResolveRefusal.{ResolveRefusal}
-use Rattle.ir_types_check.specs.Answers.{◌>>=◌}
 use Rattle.ir_types_check.specs.Scope.{Scope, meaning, define, of_function}
-use Rattle.ir_types_check.specs.Outline.{start, opened, behind_param, behind_label, behind_inst, behind, param_name}
-use Rattle.ir_types_check.specs.Locals.{with_name, with_param, with_params, with_label, with_opened, with_result, with_stmt, with_line, with_lines, locals_of}
-use Rattle.ir_types_check.proofs.Binding.{bind_ok, ok, ok_is, refused, some_is, nothing, cond_not, clash}
+use Rattle.ir_types_check.specs.Outline.{opened, behind_param, behind_label, behind_inst, behind, param_name}
+use Rattle.ir_types_check.specs.Locals.{with_name, with_param, with_params, with_label, with_opened, with_result, with_stmt, with_line, with_lines}
+use Rattle.ir_types_check.proofs.Binding.{bind_ok, ok, ok_is, some_is, nothing, cond_not, clash}
 
 -- ---- the types of a function's values
 
@@ -116,9 +111,9 @@ unchanged l = record { values = λ name place ty e. inl e; place = omega arith; 
 further : (l m r : Locals) (ts us : List Ty) → Grows l m ts → Grows m r us → Grows l r (ts ++ us)
 further l m r ts us g h = record {
   values = λ name place ty e. elim (h.values name place ty e) [
-      inl old ↦ elim (g.values name place ty old) [ inl older ↦ inl older | inr new ↦ inr (new.0, new.1, get_front ts us new.0 ty new.2) ]
+    | inl old ↦ elim (g.values name place ty old) [ inl older ↦ inl older | inr new ↦ inr (new.0, new.1, get_front ts us new.0 ty new.2) ]
     | inr new ↦ inr (length ts + new.0, omega (arith, new.1, g.place), get_back ts us new.0 ∙ new.2)
-    ];
+  ];
   place = omega (arith, g.place, h.place, length-append ts us);
   scoped = λ s. h.scoped (g.scoped s);
 }
@@ -142,19 +137,19 @@ no_block e = cc
 with_value : (l after : Locals) (name : List ℕ) (t : Ty) (at : At) → Named l after name (Value l.at.place t) at → at.place ≡ l.at.place + 1 → at.blocks ≡ l.at.blocks → Grows l after (t ∷ [])
 with_value l after name t at n p b = record {
   values = λ x place ty e. elim (look x (Value place ty) e) [
-      inl old ↦ inl old
+    | inl old ↦ inl old
     | inr new ↦ inr (0, omega (arith, value_place new.1), ap Some (value_ty new.1))
-    ];
+  ];
   place = ap (λ (x : At). x.place) n.at ∙ p;
   scoped = λ s. record {
     below = λ x k e. elim (look x (Block k) e) [
-        inl old ↦ subst (λ m. k < m) (sym (ap (λ (x : At). x.blocks) n.at ∙ b)) (s.below x k old)
+      | inl old ↦ subst (λ m. k < m) (sym (ap (λ (x : At). x.blocks) n.at ∙ b)) (s.below x k old)
       | inr new ↦ no_block new.1
-      ];
+    ];
     once = λ x y k e f. elim (look x (Block k) e) [
-        inl old ↦ elim (look y (Block k) f) [ inl older ↦ s.once x y k old older | inr new ↦ no_block new.1 ]
+      | inl old ↦ elim (look y (Block k) f) [ inl older ↦ s.once x y k old older | inr new ↦ no_block new.1 ]
       | inr new ↦ no_block new.1
-      ];
+    ];
   };
 }
   where
@@ -168,19 +163,19 @@ with_block l after name at n p b = record {
   place = ap (λ (x : At). x.place) n.at ∙ p ∙ omega arith;
   scoped = λ s. record {
     below = λ x k e. subst (λ m. k < m) (sym (ap (λ (x : At). x.blocks) n.at ∙ b)) (elim (look x (Block k) e) as (λ _. k < l.at.blocks + 1) [
-        inl old ↦ let less : k < l.at.blocks = s.below x k old in omega (arith, less)
+      | inl old ↦ let less : k < l.at.blocks = s.below x k old in omega (arith, less)
       | inr new ↦ let same : l.at.blocks ≡ k = block_is new.1 in omega (arith, same)
-      ]);
+    ]);
     once = λ x y k e f. elim (look x (Block k) e) [
-        inl old ↦ elim (look y (Block k) f) [
-            inl older ↦ s.once x y k old older
-          | inr new ↦ let less : k < l.at.blocks = s.below x k old in let same : l.at.blocks ≡ k = block_is new.1 in absurd (omega (arith, less, same))
-          ]
+      | inl old ↦ elim (look y (Block k) f) [
+        | inl older ↦ s.once x y k old older
+        | inr new ↦ let less : k < l.at.blocks = s.below x k old in let same : l.at.blocks ≡ k = block_is new.1 in absurd (omega (arith, less, same))
+      ]
       | inr new ↦ elim (look y (Block k) f) [
-            inl old ↦ let less : k < l.at.blocks = s.below y k old in let same : l.at.blocks ≡ k = block_is new.1 in absurd (omega (arith, less, same))
-          | inr other ↦ new.0 ∙ sym other.0
-          ]
-      ];
+        | inl old ↦ let less : k < l.at.blocks = s.below y k old in let same : l.at.blocks ≡ k = block_is new.1 in absurd (omega (arith, less, same))
+        | inr other ↦ new.0 ∙ sym other.0
+      ]
+    ];
   };
 }
   where
@@ -229,11 +224,14 @@ no_store false name r e f = refl
 result_grows : (n : ℕ) (l after : Locals) (s : Stmt) (r : Option (List ℕ)) → s.result ≡ r → (is_store s.op ≡ true → s.result ≡ None) → with_result n l s r ≡ Ok after →
     Grows l after (given_ty s.op s.ty ∷ []) × (after.at ≡ behind_inst l.at s)
 unfolding behind_inst
-result_grows n l after s None is silent e = subst (λ x. Grows l x (given_ty s.op s.ty ∷ []) × (x.at ≡ behind_inst l.at s)) (ok_is e) (record {
-  values = λ name place ty e. inl e;
-  place = omega arith;
-  scoped = λ h. record { below = h.below; once = h.once };
-}, refl)
+result_grows n l after s None is silent e = subst (λ x. Grows l x (given_ty s.op s.ty ∷ []) × (x.at ≡ behind_inst l.at s)) (ok_is e) (
+  record {
+    values = λ name place ty e. inl e;
+    place = omega arith;
+    scoped = λ h. record { below = h.below; once = h.once };
+  },
+  refl,
+)
 result_grows n l after s (Some name) is silent e =
     let h : Named l after name (Value l.at.place s.ty) (behind_inst l.at s) = named n l after _ _ _ e in
     let t : given_ty s.op s.ty ≡ s.ty = given s.op s.ty (no_store (is_store s.op) name s.result is silent) in

@@ -1,19 +1,16 @@
 -- A statement that is well typed, with what its names stand for in their place: the types of its operands are those that are written.
-use Rattle.std.proofs.Common.{◌≡◌, ℕ, suc, ◌+◌, ◌<◌, ◌⊎◌, inl, inr, Bool, true, false, not, ◌&&◌, List, [], ◌∷◌, ◌++◌, length, map, Option, Some, None, Result, Ok, Err, refl, sym, ◌∙◌, ap, subst, arith, eqb-true}
+use Rattle.std.proofs.Common.{◌≡◌, ℕ, suc, ◌+◌, ◌⊎◌, inl, inr, true, List, [], ◌∷◌, length, map, Option, Some, None, Ok, refl, sym, ◌∙◌, ap, subst, eqb-true}
 use Rattle.std.specs.Prelude.{nat_eq, nat_lt, if◌then◌else◌}
 use Rattle.std.specs.List.{All, AllZip, AllPairs, list_all}
 use Rattle.std.proofs.lemmas.List.Elements.{All-nil, All-cons, All-head, All-tail}
-use Rattle.ir_types.specs.declared.id.Id.{Id}
 use Rattle.ir_types.specs.declared.ty.Ty.{Ty}
 use Rattle.ir_types.specs.declared.ty.Ty.TheVariants.{Void, Int, Ptr, Row}
-use Rattle.ir_types.specs.declared.literal.Literal.{Literal}
 use Rattle.ir_types.specs.declared.opd.Opd.{Opd}
-use Rattle.ir_types.specs.declared.opd.Opd.TheVariants.{Val, Lit, Sym}
 use Rattle.ir_types.specs.declared.op.Op.{Op}
 use Rattle.ir_types.specs.declared.op.Op.TheVariants as ops
 use Rattle.ir_types.specs.declared.func.Func.{Func}
 use Rattle.ir_types.specs.declared.module.Module.{Module}
-use Rattle.ir_types.specs.Typed.{is_width, is_value, IsCase, IsTyped}
+use Rattle.ir_types.specs.Typed.{is_value, IsCase, IsTyped}
 use Rattle.ir_types.specs.Formed.{value_ty, opd_ty, IsOpd}
 use Rattle.ir_line.specs.declared.written.Written.{Written}
 use Rattle.ir_line.specs.declared.written.Written.TheVariants as written
@@ -26,11 +23,10 @@ use Rattle.ir_types_check.specs.declared.locals.Meaning.TheVariants.{Value, Bloc
 use Rattle.ir_types_check.specs.declared.tops.Top.{Top}
 use Rattle.ir_types_check.specs.declared.tops.Top.TheVariants.{Global, Function, Other}
 use Rattle.ir_types_check.specs.declared.links.Cases.{Cases}
-use Rattle.ir_types_check.specs.declared.refusal.ResolveRefusal.{ResolveRefusal}
 use Rattle.ir_types_check.specs.Scope.{Scope, meaning}
 use Rattle.ir_types_check.specs.Links.{value_of, global_of, opd_of, block_at, op_of}
 use Rattle.ir_types_check.specs.Typed.{same_ty, is_value_of, fits_type, arg_fits, first_ty, op_fits}
-use Rattle.ir_types_check.proofs.Binding.{ok, ok_is, refused, some_is, nothing, clash, both}
+use Rattle.ir_types_check.proofs.Binding.{ok_is, refused, clash, both}
 use Rattle.ir_types_check.proofs.BodyLinks.{IsOpdOf}
 
 pub same_is : (t u : Ty) → same_ty t u ≡ true → t ≡ u
@@ -107,12 +103,15 @@ none_are (a ∷ args) e = cc
 pub op_typed : (tops : Scope Top) (locals : Scope Meaning) (ret : Ty) (edges : List (List ℕ)) (here : ℕ) (s : Stmt) (blocks : List ℕ) (cases : Cases) (op : Op) → (IsCallOp op → ⊥) →
     IsSoundOp op s.ty (written_types s.args) → op_fits tops locals ret edges here s op ≡ true → FitIfSwitch op s.args cases → IsTyped ret (op_of blocks cases op) s.ty (written_types s.args)
 op_typed tops locals ret edges here s blocks cases (ops.Phi places) uncalled h f c = (h.0, map_length (block_at blocks) places ∙ h.1, h.2, h.3)
-op_typed tops locals ret edges here s blocks cases ops.Ret uncalled h f c = (h.0, elim h.1 as (λ _. ((ret ≡ Void) × (written_types s.args ≡ [])) ⊎ ((is_value ret ≡ true) × (written_types s.args ≡ Some ret ∷ []))) [
-    inl none ↦ inl (sym (same_is (first_ty s.args) ret f) ∙ none_are s.args none, none)
-  | inr one ↦
-      let same : one.0 ≡ ret = sym (first_is s.args one.0 one.2) ∙ same_is (first_ty s.args) ret f in
-      inr (subst (λ t. is_value t ≡ true) same one.1, one.2 ∙ ap (λ t. Some t ∷ []) same)
-  ])
+op_typed tops locals ret edges here s blocks cases ops.Ret uncalled h f c = (
+  h.0,
+  elim h.1 as (λ _. ((ret ≡ Void) × (written_types s.args ≡ [])) ⊎ ((is_value ret ≡ true) × (written_types s.args ≡ Some ret ∷ []))) [
+    | inl none ↦ inl (sym (same_is (first_ty s.args) ret f) ∙ none_are s.args none, none)
+    | inr one ↦
+        let same : one.0 ≡ ret = sym (first_is s.args one.0 one.2) ∙ same_is (first_ty s.args) ret f in
+        inr (subst (λ t. is_value t ≡ true) same one.1, one.2 ∙ ap (λ t. Some t ∷ []) same)
+  ],
+)
 op_typed tops locals ret edges here s blocks cases (ops.Switch other values to) uncalled h f c =
     let g : FitCases h.0 cases = c h.0 (first_is s.args (Int h.0) h.3) in
     (h.0, h.1, h.2, g.many, g.each, g.once, h.3)

@@ -1,13 +1,12 @@
 -- The items of a draft whose functions have headers of the profile and lines that stand where they may: resolved and well typed, they are
 -- formed, and their ids are one number after the other.
-use Rattle.std.proofs.Common.{◌≡◌, ℕ, zero, suc, ◌+◌, ◌<◌, ◌≤◌, ◌⊎◌, inl, inr, Bool, true, false, List, [], ◌∷◌, ◌++◌, length, map, get_or, Option, Some, None, Result, Ok, Err, refl, sym, ◌∙◌, ap, subst, arith, append_assoc, length-append}
+use Rattle.std.proofs.Common.{◌≡◌, ℕ, zero, suc, ◌+◌, ◌<◌, inl, inr, Bool, true, false, List, [], ◌∷◌, ◌++◌, length, get_or, Option, Some, None, Ok, refl, sym, ◌∙◌, ap, subst, arith, append_assoc, length-append}
 use Rattle.std.proofs.lemmas.Bool.Decides.{nat_tests}
 use Rattle.std.proofs.lemmas.List.{append-nil}
 use Rattle.std.specs.Prelude.{nat_lt}
 use Rattle.std.specs.List.{All, AllPairs}
 use Rattle.std.proofs.lemmas.List.Elements.{All-nil, All-head, All-tail, All-push}
 use Rattle.ir_types.specs.declared.id.Id.{Id}
-use Rattle.ir_types.specs.declared.func.Func.{Func}
 use Rattle.ir_types.specs.declared.module.Item.{Item}
 use Rattle.ir_types.specs.declared.module.Item.TheVariants.{Kept, Opaque, Func as FuncItem}
 use Rattle.ir_types.specs.declared.module.Module.{Module}
@@ -22,11 +21,8 @@ use Rattle.ir_types_check.specs.declared.locals.Locals.{Locals}
 use Rattle.ir_types_check.specs.declared.tops.Top.{Top}
 use Rattle.ir_types_check.specs.declared.tops.Top.TheVariants.{Global, Function, Other}
 use Rattle.ir_types_check.specs.declared.tops.Tops.{Tops}
-use Rattle.ir_types_check.specs.declared.building.Built.{Built}
 use Rattle.ir_types_check.specs.declared.building.Done.{Done}
 use Rattle.ir_types_check.specs.declared.resolved.Resolved.{Resolved}
-use Rattle.ir_types_check.specs.declared.refusal.ResolveRefusal.{ResolveRefusal}
-use Rattle.ir_types_check.specs.Answers.{◌>>=◌}
 use Rattle.ir_types_check.specs.Scope.{Scope, meaning, define, of_module}
 use Rattle.ir_types_check.specs.Locals.{locals_of}
 use Rattle.ir_types_check.specs.Tops.{with_top, with_global, with_symbol, with_opaque, signature_of, with_function, with_item, with_items, tops_of}
@@ -34,7 +30,7 @@ use Rattle.ir_types_check.specs.Blocks.{id_of, closed, func_of, built_of}
 use Rattle.ir_types_check.specs.Outline.{start}
 use Rattle.ir_types_check.specs.Typed.{lines_typed, sources_of, function_typed, item_typed, items_typed}
 use Rattle.ir_types_check.specs.Resolved.{with_built, resolved_function, with_kept, resolved_item, resolved_items, module_of, resolved_with, resolved_of}
-use Rattle.ir_types_check.proofs.Binding.{bind_ok, ok, ok_is, refused, nothing}
+use Rattle.ir_types_check.proofs.Binding.{bind_ok, ok, ok_is, nothing}
 use Rattle.ir_types_check.proofs.BodyScope.{found, defined}
 use Rattle.ir_types_check.proofs.BodyIds.{ids_from, ids_append}
 use Rattle.ir_types_check.proofs.BodyFormed.{HasTypes, FormedFunc, function_is_formed}
@@ -56,9 +52,9 @@ top_keeps n t after name top other e h =
     bind_ok (define n of_module name top t.scope) _ after e (λ scope was is.
     let there : scope ≡ t.scope ++ (name, top) ∷ [] = defined n of_module name top t.scope scope was in
     subst AreGlobals (ok_is is) (λ x g found_is. elim (found x t.scope name top (Global g) (subst (λ s. meaning x s ≡ Some (Global g)) there found_is)) [
-        inl old ↦ h x g old
+      | inl old ↦ h x g old
       | inr new ↦ absurd (subst IsNoGlobal new.1 other)
-      ]))
+    ]))
 
 global_is : {j k : ℕ} → Global j ≡ Global k → j ≡ k
 global_is e = cc
@@ -70,10 +66,10 @@ global_keeps n t after name e h =
     let there : scope ≡ t.scope ++ (name, Global (length t.globals)) ∷ [] = defined n of_module name (Global (length t.globals)) t.scope scope was in
     let longer : length (t.globals ++ name ∷ []) ≡ length t.globals + 1 = length-append t.globals (name ∷ []) in
     subst AreGlobals (ok_is is) (λ x g found_is.
-        elim (found x t.scope name (Global (length t.globals)) (Global g) (subst (λ s. meaning x s ≡ Some (Global g)) there found_is)) as (λ _. g < length (t.globals ++ name ∷ [])) [
-        inl old ↦ let less : g < length t.globals = h x g old in omega (arith, less, longer)
+    elim (found x t.scope name (Global (length t.globals)) (Global g) (subst (λ s. meaning x s ≡ Some (Global g)) there found_is)) as (λ _. g < length (t.globals ++ name ∷ [])) [
+      | inl old ↦ let less : g < length t.globals = h x g old in omega (arith, less, longer)
       | inr new ↦ let same : length t.globals ≡ g = global_is new.1 in omega (arith, same, longer)
-      ]))
+    ]))
 
 symbol_keeps : (n : ℕ) (t after : Tops) (global : Bool) (symbol : Option (List ℕ)) → with_symbol n t global symbol ≡ Ok after → AreGlobals t → AreGlobals after
 symbol_keeps n t after global None e h = subst AreGlobals (ok_is e) h
@@ -191,7 +187,6 @@ resolved_is_formed d r fit e =
     bind_ok (resolved_items tops.scope (record { items = []; lines = [] }) d.items) _ r now (λ done was then'.
     bind_ok (items_typed tops.scope d.items) _ r then' (λ u typed is.
     let globals : AreGlobals tops = items_keep (record { scope = []; globals = [] }) tops d.items named (λ name g e. nothing e) in
-    let m : Module = (module_of tops d.items done).«module» in
     let f : AreFormed (module_of tops d.items done).«module» done =
     items_formed (module_of tops d.items done).«module» tops.scope (λ name g there. below g (length tops.globals) (globals name g there)) (record { items = []; lines = [] }) done d.items u fit was typed
     (record { formed = All-nil (IsFormedItem (module_of tops d.items done).«module»); ids = refl }) in

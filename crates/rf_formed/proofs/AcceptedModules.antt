@@ -1,29 +1,26 @@
 -- A draft that was read has headers of the profile and lines that stand where they may; resolved and well typed, it is formed.
-use Rattle.std.proofs.Common.{◌≡◌, ℕ, zero, suc, ◌+◌, ◌⊎◌, inl, inr, true, List, [], ◌∷◌, length, Ok, refl, sym, ◌∙◌, ap}
-use Rattle.std.specs.List.{All, AllPairs}
+use Rattle.std.proofs.Common.{◌≡◌, ℕ, zero, suc, ◌+◌, ◌⊎◌, inl, inr, true, List, ◌∷◌, length, Ok, refl, ◌∙◌, ap}
 use Rattle.std.proofs.lemmas.List.Elements.{All-weaker}
-use Rattle.ir_types.specs.declared.id.Id.{Id}
 use Rattle.ir_types.specs.declared.ty.Ty.{Ty}
 use Rattle.ir_types.specs.declared.ty.Ty.TheVariants.{Void, Int, Ptr, Row}
 use Rattle.ir_types.specs.declared.func.Param.{Param}
-use Rattle.ir_types.specs.Available.{IsAvailable}
 use Rattle.ir_types.specs.Typed.{is_value}
-use Rattle.ir_types.specs.Formed.{ids_of, IsFormed}
+use Rattle.ir_types.specs.Formed.{ids_of}
 use Rattle.ir_line.specs.declared.head.Head.{Head}
 use Rattle.ir_line.specs.declared.draft.Draft.{Draft}
 use Rattle.ir_line.specs.declared.draft.DraftItem.{DraftItem}
 use Rattle.ir_line.specs.declared.draft.DraftItem.TheVariants as item
 use Rattle.ir_read.specs.Draft.{draft_of}
-use Rattle.ir_read.proofs.ReadBodies.{IsReadFunc, IsReadItem, draft_is_read}
+use Rattle.ir_read.proofs.ReadBodies.{IsReadItem, draft_is_read}
 use Rattle.ir_types_check.specs.declared.resolved.Resolved.{Resolved}
 use Rattle.ir_types_check.specs.Resolved.{resolved_of}
 use Rattle.ir_types_check.proofs.BodyFormed.{HasTypes}
 use Rattle.ir_types_check.proofs.BodyIds as counted
-use Rattle.ir_types_check.proofs.ItemsFormed.{IsFit, IsFitItem, FormedItems, resolved_is_formed}
+use Rattle.ir_types_check.proofs.ItemsFormed.{IsFitItem, FormedItems, resolved_is_formed}
 use Rattle.rf_text.specs.Headed.{is_returned, IsParam, IsHead}
-use Rattle.rf_text.specs.Printable.{ids_from, IsNumbered}
+use Rattle.rf_text.specs.Printable.{ids_from}
 use Rattle.rf_text.proofs.HeadsFound.{head_of_line}
-use Rattle.rf_formed.specs.Accepted.{IsFormedButForWalks, AcceptedIsFormedButForWalks, AcceptedIsFormed, AcceptedIsNumbered}
+use Rattle.rf_formed.specs.Accepted.{AcceptedIsFormedButForWalks, AcceptedIsFormed, AcceptedIsNumbered}
 
 returned : (t : Ty) → is_returned t ≡ true → (t ≡ Void) ⊎ (is_value t ≡ true)
 returned Void e = inl refl
