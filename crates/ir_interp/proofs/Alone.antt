@@ -1,5 +1,5 @@
 -- Whether arguments are alone: it does not matter in which order the others stand.
-use Rattle.std.proofs.Common.{◌≡◌, refl, sym, ap, ◌∙◌, ℕ, zero, suc, ◌+◌, ◌<◌, ◌≤◌, ◌-◌, Bool, true, false, not, ◌||◌, ◌&&◌, nat_le, None, Some, List, [], ◌∷◌, ◌++◌, length, reverse, take, drop, slice_get, add-one, arith, length-drop}
+use Rattle.std.proofs.Common.{◌≡◌, refl, sym, ap, ◌∙◌, ℕ, zero, suc, ◌+◌, ◌-◌, Bool, true, false, not, ◌||◌, ◌&&◌, nat_le, None, Some, List, [], ◌∷◌, ◌++◌, length, reverse, take, drop, slice_get, add-one, arith, length-drop}
 use Rattle.std.specs.List.{list_any}
 use Rattle.std.proofs.lemmas.List.{reverse-append, take_all}
 use Rattle.std.proofs.lemmas.List.Folds.{list_any-append}

@@ -3,7 +3,7 @@ use Rattle.std.proofs.Common.{◌≡◌, refl, sym, ap, ◌∙◌, ℕ, suc, ◌
 use Rattle.std.proofs.Math.Pow.{pow_mono}
 use Rattle.vx_num.specs.Width.{IsLane}
 use Rattle.ir_model.specs.Values.{Lane}
-use Rattle.ir_model.specs.Memory.{lane_bytes, with_low, lane_from}
+use Rattle.ir_model.specs.Memory.{lane_bytes, lane_from}
 use Rattle.ir_model.specs.Accesses.{lanes_from}
 use Rattle.ir_interp.specs.Lowest.{low_byte, above_low}
 

@@ -1,9 +1,8 @@
 -- The item of a list at a place, and what is left from there on.
-use Rattle.std.proofs.Common.{◌≡◌, refl, sym, ap, ◌∙◌, ℕ, zero, suc, ◌+◌, ◌<◌, ◌≤◌, None, Some, List, [], ◌∷◌, length, drop, get_or, slice_get, arith, drop-cons, add-one}
+use Rattle.std.proofs.Common.{◌≡◌, refl, sym, ap, ◌∙◌, ℕ, zero, suc, ◌+◌, ◌<◌, ◌≤◌, None, Some, List, [], ◌∷◌, length, drop, get_or, slice_get, drop-cons, add-one}
 use Rattle.std.proofs.Math.ListN.{drop_of_length-le}
 use Rattle.ir_types.specs.declared.func.Param.{Param}
 use Rattle.ir_model.specs.declared.value.Value.TheVariants.{Ptr as PtrValue}
-use Rattle.ir_model.specs.Values.{Env}
 use Rattle.ir_model.specs.Run.{start_env}
 
 pub item-next : {A : Type 0} (xs : List A) (i : ℕ) (x : A) → i < length xs → x ≡ get_or xs i x → x ∷ drop (i + 1) xs ≡ drop i xs

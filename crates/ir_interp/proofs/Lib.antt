@@ -1,4 +1,4 @@
--- What the loops over lanes and bytes stand on.
+-- Lemmas on plain lists, lanes, states and runs, which the proofs of the functions share.
 mod Partners
 mod Pieces
 mod Scales

@@ -1,5 +1,5 @@
 -- Vectors of other lengths: a loop that finds no partner for a lane has met undefined behaviour.
-use Rattle.std.proofs.Common.{◌≡◌, refl, sym, ap, ◌∙◌, ℕ, ◌<◌, ◌-◌, Option, None, Some, List, [], ◌∷◌, ◌++◌, length, drop, arith, length-drop}
+use Rattle.std.proofs.Common.{◌≡◌, refl, sym, ap, ◌∙◌, ℕ, ◌<◌, Option, None, List, [], ◌∷◌, length, drop, arith, length-drop}
 use Rattle.ir_model.specs.Values.{Lane}
 use Rattle.ir_model.specs.Operations.{each_pair, chosen_lanes}
 use Rattle.ir_interp.specs.Partial.{behind}

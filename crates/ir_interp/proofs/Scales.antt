@@ -1,5 +1,5 @@
 -- Sizes are kept modulo 2^64: an offset that wraps there is the same.
-use Rattle.std.proofs.Common.{◌≡◌, refl, sym, ap, ◌∙◌, ℕ, ℤ, pos, ◌+ℤ◌, ◌*ℤ◌, ◌%◌, ◌^◌, ◌≤◌, Bool, true, cond, nat_le, w64, Option, None, Some}
+use Rattle.std.proofs.Common.{◌≡◌, refl, sym, ap, ◌∙◌, ℕ, ℤ, pos, ◌+ℤ◌, ◌*ℤ◌, ◌%◌, ◌^◌, ◌≤◌, cond, w64, Option, None, Some}
 use Rattle.std.specs.Int.{int_wrap, cast_signed}
 use Rattle.std.proofs.Math.Nat.{mod-mod}
 use Rattle.std.proofs.lemmas.Bool.{le-leb}

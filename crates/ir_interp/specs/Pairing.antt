@@ -1,5 +1,5 @@
 -- The operations on two lanes that work on vectors lane by lane, as functions.
-use Rattle.std.specs.Prelude.{ℕ, ◌≤◌, Option, ⊤}
+use Rattle.std.specs.Prelude.{◌≤◌, Option, ⊤}
 use Rattle.ir_model.specs.Values.{Lane}
 use Rattle.ir_model.specs.Operations.{bin_lane, cmp_lane, choice}
 use Rattle.ir_interp.specs.declared.pairing.Pairing.{Pairing}

@@ -3,6 +3,7 @@ pub mod Answering
 pub mod ItemsRead
 pub mod LineForms
 pub mod Named
+pub mod Placing
 pub mod ReadBodies
 pub mod ReadItems
 pub mod Splitting

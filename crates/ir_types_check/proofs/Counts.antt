@@ -42,7 +42,7 @@ all_at t b (z ∷ zs) e =
     let parts : (t z ≡ true) × (list_all t zs ≡ true) = both (t z) (list_all t zs) e in
     at_head t b z zs parts.0 (all_at t b zs parts.1) (nat_eq b z) refl
 
-counts_equal : (xs ys : List ℕ) → same_blocks xs ys ≡ true → (b : ℕ) → count b xs ≡ count b ys
+pub counts_equal : (xs ys : List ℕ) → same_blocks xs ys ≡ true → (b : ℕ) → count b xs ≡ count b ys
 counts_equal xs ys e b = from (all_at (λ c. nat_eq (count c xs) (count c ys)) b (xs ++ ys) e) (count_append b xs ys) where
   from : (count b (xs ++ ys) ≡ 0) ⊎ (nat_eq (count b xs) (count b ys) ≡ true) → count b (xs ++ ys) ≡ count b xs + count b ys → count b xs ≡ count b ys
   from (inl none) sum = omega (arith, none, sum)
@@ -52,7 +52,7 @@ all_true : (t : ℕ → Bool) → ((b : ℕ) → t b ≡ true) → (zs : List �
 all_true t every [] = refl
 all_true t every (z ∷ zs) = ap (λ c. c && list_all t zs) (every z) ∙ all_true t every zs
 
-from_counts : (xs ys : List ℕ) → ((b : ℕ) → count b xs ≡ count b ys) → same_blocks xs ys ≡ true
+pub from_counts : (xs ys : List ℕ) → ((b : ℕ) → count b xs ≡ count b ys) → same_blocks xs ys ≡ true
 from_counts xs ys every = all_true (λ b. nat_eq (count b xs) (count b ys)) (λ b. (Decides-eqb (count b xs) (count b ys)).1 (every b)) (xs ++ ys)
 
 -- ---- sorted lists

@@ -1,2 +1,2 @@
 -- Why what is read and well typed is formed.
-pub mod Trial
+pub mod AcceptedModules

@@ -1,1 +1,2 @@
 -- What laws of accepted modules speak of.
+pub mod Accepted

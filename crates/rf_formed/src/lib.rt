@@ -1,6 +1,9 @@
-//! Laws: what is read and well typed is formed.
+//! Laws: a text that is read, whose names resolve and whose lines are well typed, is a formed module as soon as its uses are available.
 //!
-//! There is no code that runs. Each law is the contract of a public function with an empty body; a caller that calls it has the law.
-//! Nothing here fails.
+//! There is no code that runs. Each law is the contract of a public function with an empty body, over the definitions of the reader
+//! and of the type check; a caller that calls it has the law. Nothing here fails.
 #![tactic(auto)]
 
+mod accepted;
+
+pub use accepted::{accepted_is_formed, accepted_is_formed_but_for_walks, accepted_is_numbered};

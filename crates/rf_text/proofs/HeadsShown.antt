@@ -58,7 +58,7 @@ more_digits : (n : ℕ) (ds : List ℕ) → 10 ≤ n → PlainNumber (n / 10) ds
 unfolding is_digit
 more_digits n ds h front = let low : n % 10 < 10 = omega arith in let some : 0 < n / 10 = omega (arith, h) in number_more (n / 10) ds (48 + n % 10) (digit_in (n % 10) low) some front n
 
-second_true : (a b : Bool) → b ≡ true → a || b ≡ true
+pub second_true : (a b : Bool) → b ≡ true → a || b ≡ true
 second_true true b h = refl
 second_true false b h = h
 
@@ -75,14 +75,14 @@ shown_is : (n : ℕ) (name : Option (List ℕ)) → n < 2 ^ 64 → is_written na
 shown_is n None small h = number_shown n small
 shown_is n (Some name) small h = h
 
-counted_most : (n : ℕ) (name : Option (List ℕ)) → counted n name ≤ n + 1
+pub counted_most : (n : ℕ) (name : Option (List ℕ)) → counted n name ≤ n + 1
 counted_most n None = omega arith
 counted_most n (Some name) = omega arith
 
-abbrev is_text : Local → Bool
+abbrev pub is_text : Local → Bool
 is_text l = is_local_name l.text
 
-locals_are : (n : ℕ) (vs : List Named) → list_all is_named vs ≡ true → n + length vs ≤ 2 ^ 64 → list_all is_text (locals_from n vs) ≡ true
+pub locals_are : (n : ℕ) (vs : List Named) → list_all is_named vs ≡ true → n + length vs ≤ 2 ^ 64 → list_all is_text (locals_from n vs) ≡ true
 locals_are n [] h l = refl
 locals_are n (Value id ty name ∷ vs) h l =
     let first : is_local_name (shown n name) ≡ true = shown_is n name (omega (arith, l)) (both (is_written name) _ h).0 in
@@ -99,7 +99,7 @@ kept_shown id [] before h k = k
 kept_shown id (l ∷ ls) before h k = kept_shown id ls _ (both (is_text l) _ h).1 (chosen (same_id l.id id) l before (both (is_text l) _ h).0 k)
 
 -- what is there is found
-last_shown : (id : Id) (ls : List Local) (before : Option Local) → list_all is_text ls ≡ true → list_any (λ (l : Local). same_id l.id id) ls ≡ true → is_shown (last_of id ls before) ≡ true
+pub last_shown : (id : Id) (ls : List Local) (before : Option Local) → list_all is_text ls ≡ true → list_any (λ (l : Local). same_id l.id id) ls ≡ true → is_shown (last_of id ls before) ≡ true
 last_shown id [] before h k = cc
 last_shown id (l ∷ ls) before h k =
     here (same_id l.id id) k (kept_shown id ls (Some l) (both (is_text l) _ h).1 (both (is_text l) _ h).0) (last_shown id ls before (both (is_text l) _ h).1) where
@@ -108,7 +108,7 @@ last_shown id (l ∷ ls) before h k =
       here true k first next = first
       here false k first next = next k
 
-id_same : (id : Id) → same_id id id ≡ true
+pub id_same : (id : Id) → same_id id id ≡ true
 id_same id = rw (eq-eqb id.region id.region refl, eq-eqb id.k id.k refl) refl
 
 -- each parameter is among what is shown

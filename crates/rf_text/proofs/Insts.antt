@@ -38,7 +38,7 @@ use Rattle.rf_text.proofs.PartsOperands.{Operand, operand}
 pub one_line : (f : Form) (line : List ℕ) {text : List ℕ} {forms : List Line} → text ≡ line ++ codes "\n" → forms ≡ line_of f ∷ [] → Told (slots f) line → Printed text forms
 one_line f line whole same told = record { lines = line ∷ []; whole = whole; each = rw same (ap (λ (o : Option Line). o ∷ []) (line_read f line told)) }
 
-joined_append : (ls ms : List (List ℕ)) → joined (ls ++ ms) ≡ joined ls ++ joined ms
+pub joined_append : (ls ms : List (List ℕ)) → joined (ls ++ ms) ≡ joined ls ++ joined ms
 joined_append [] ms = refl
 joined_append (l ∷ ls) ms = rw (joined_append ls ms) (sym (append_assoc l (10 ∷ joined ls) (joined ms)))
 
@@ -96,10 +96,10 @@ heads e = cc
 pub tails : {A : Type 0} {x y : A} {xs ys : List A} → x ∷ xs ≡ y ∷ ys → xs ≡ ys
 tails e = cc
 
-none_more : {A P : Type 0} {x : A} {xs : List A} → x ∷ xs ≡ [] → P
+pub none_more : {A P : Type 0} {x : A} {xs : List A} → x ∷ xs ≡ [] → P
 none_more e = cc
 
-too_few : {A P : Type 0} {x : A} {xs : List A} → [] ≡ x ∷ xs → P
+pub too_few : {A P : Type 0} {x : A} {xs : List A} → [] ≡ x ∷ xs → P
 too_few e = cc
 
 -- operands that are shown with these types are read again

@@ -1,11 +1,16 @@
 -- What laws of printed and read text speak of.
+pub mod Again
 pub mod Headed
 pub mod KeptParts
 pub mod LinesOf
 pub mod ModuleForms
+pub mod NamedItems
+pub mod PlacedForms
 pub mod Printable
 pub mod Printed
 pub mod Readable
 pub mod Reads
+pub mod Renumbered
 pub mod Shown
+pub mod TextLines
 pub mod Written

@@ -4,13 +4,21 @@
 //! `ir_print` and of the readers; a caller that calls it has the law. Nothing here fails.
 #![tactic(auto)]
 
+mod again;
 mod instructions;
+mod named_items;
 mod outside;
+mod placed_forms;
 mod readable;
+mod text_lines;
 
+pub use again::texts_are_read_again;
 pub use instructions::{printed_bodies, printed_braces, printed_instructions, printed_labels};
+pub use named_items::printed_items_are_named;
 pub use outside::{
     forms_are_of_lines, headers_again, headers_are_heads, heads_of_lines, kept_by_text,
     kept_lines_again, lines_again, params_are_shown, sound_are_lines,
 };
+pub use placed_forms::forms_are_placed;
 pub use readable::{read_modules_are_numbered, read_modules_are_printable};
+pub use text_lines::texts_are_lines;

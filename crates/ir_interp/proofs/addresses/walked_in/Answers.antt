@@ -1,4 +1,4 @@
-use Rattle.std.proofs.Common.{◌≡◌, ◌*◌, sym, ap, ◌∙◌, Some, rules}
+use Rattle.std.proofs.Common.{◌≡◌, ◌*◌, sym, ap, ◌∙◌, rules}
 use Rattle.ir_model.specs.Sizes.{bytes_in}
 use Rattle.ir_model.specs.Addresses.{stepped}
 use Rattle.ir_interp.specs.Walks.{walked_in}

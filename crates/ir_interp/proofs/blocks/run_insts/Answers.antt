@@ -1,4 +1,4 @@
-use Rattle.std.proofs.Common.{◌≡◌, true, false, sym, ap, ◌∙◌, arith}
+use Rattle.std.proofs.Common.{◌≡◌, false, sym, ◌∙◌, arith}
 use Rattle.ir_model.specs.Run.{is_terminator}
 use Rattle.ir_interp.specs.Slots.{types_in}
 use Rattle.ir_interp.specs.Effects.{state_in}

@@ -1,5 +1,4 @@
-use Rattle.std.proofs.Common.{◌-◌, ◌*◌, ◌+◌, arith, subst, ◌≡◌}
-use Rattle.vx_num.specs.Width.{IsLane}
+use Rattle.std.proofs.Common.{◌-◌, ◌*◌, ◌+◌, arith}
 use Rattle.ir_interp.proofs.Bits.{IsLane-wider}
 use Rattle.ir_interp.proofs.bytes.+lane_from.Goals as goal
 

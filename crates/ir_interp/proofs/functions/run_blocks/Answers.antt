@@ -1,4 +1,4 @@
-use Rattle.std.proofs.Common.{◌+◌, ◌-◌, Option, Some, ℕ, sym, ap, ◌∙◌, arith}
+use Rattle.std.proofs.Common.{◌+◌, ◌-◌, Some, sym, ap, ◌∙◌, arith}
 use Rattle.ir_model.specs.declared.outcome.Outcome.TheVariants.{Returned}
 use Rattle.ir_model.specs.Run.{end_on, run_blocks}
 use Rattle.ir_interp.specs.Slots.{types_in}

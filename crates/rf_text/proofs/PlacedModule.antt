@@ -1,0 +1,155 @@
+-- The lines of a module's text stand where they may.
+use Rattle.std.proofs.Common.{◌≡◌, ℕ, suc, ◌+◌, ◌^◌, ◌<◌, Bool, true, false, List, [], ◌∷◌, ◌++◌, length, map, Some, Ok, refl, sym, subst, arith, slice_get, slice_index_or}
+use Rattle.std.proofs.lemmas.List.{append_assoc, append-nil}
+use Rattle.std.proofs.lemmas.List.Elements.{All-head, All-tail, All-nil, All-cons}
+use Rattle.std.specs.List.{All}
+use Rattle.ir_types.specs.declared.id.Id.{Id}
+use Rattle.ir_types.specs.declared.opd.Opd.{Opd}
+use Rattle.ir_types.specs.declared.opd.Opd.TheVariants.{Val, Lit, Sym}
+use Rattle.ir_types.specs.declared.inst.Inst.{Inst}
+use Rattle.ir_types.specs.declared.func.Block.{Block}
+use Rattle.ir_types.specs.declared.func.Func.{Func}
+use Rattle.ir_types.specs.declared.module.Item.{Item}
+use Rattle.ir_types.specs.declared.module.Item.TheVariants.{Kept, Opaque, Func as FuncItem}
+use Rattle.ir_types.specs.declared.module.Module.{Module}
+use Rattle.ir_types.specs.Formed.{IsFormed, IsFormedItem, IsFormedFunc, IsFormedBlock, is_alloca, item_ids, ids_of_items}
+use Rattle.ir_line.specs.declared.line.Line.{Line}
+use Rattle.ir_line.specs.declared.draft.DraftItem.{DraftItem}
+use Rattle.ir_print.specs.Text.{is_function}
+use Rattle.ir_print.specs.Names.{named_of}
+use Rattle.ir_read.specs.Draft.{nothing_done}
+use Rattle.ir_read.specs.Outlook.{outlook_of}
+use Rattle.ir_read.specs.Items.{barred_in, items_of}
+use Rattle.ir_read.proofs.Placing.{Known}
+use Rattle.rf_text.specs.ModuleForms.{gap_forms, item_forms, more_items_forms, items_forms, module_forms, draft_item, more_draft_items, draft_items, printed_items}
+use Rattle.rf_text.specs.Printable.{IsPlainInst, IsPlainBlock, IsPlainFunc, IsPlainItem, IsAllowed, IsAllowedBlock, IsAllowedItem, has_function, IsPrintable, IsCountedItem, IsCounted}
+use Rattle.rf_text.proofs.PlacedNames.{Apart, IsNone, pairs_apart}
+use Rattle.rf_text.proofs.PlacedInsts.{IsFree, IsFitting}
+use Rattle.rf_text.proofs.PlacedBlocks.{IsFittingBlock, AreFitting, IsFittingFunc, body_stands}
+use Rattle.rf_text.proofs.PlacedItems.{Remain, none_remain, empty_remains, kept_remains, func_remains}
+
+-- ---- items, one behind the other
+
+-- an item of the profile
+abbrev pub IsFittingItem : Known → List (List ℕ) → Item → Type 0
+IsFittingItem known gs (Kept text) = Unit {0}
+IsFittingItem known gs (Opaque text) = ⊥
+IsFittingItem known gs (FuncItem f) = (known.other_pointers ≡ false) × IsFittingFunc known.names gs f
+
+abbrev pub AreFittingItems : Known → List (List ℕ) → List Item → Type 0
+AreFittingItems known gs [] = Unit {0}
+AreFittingItems known gs (i ∷ is) = IsFittingItem known gs i × AreFittingItems known gs is
+
+module _ (known : Known) (gs : List (List ℕ)) where
+  item_remains : (n : ℕ) (before items : List DraftItem) (i : Item) (fs : List Line) → IsFittingItem known gs i → Remain known (n + length (item_forms gs i)) (before ++ draft_item gs n i ∷ []) fs items → Remain known n before (item_forms gs i ++ fs) items
+  item_remains n before items (Kept text) fs fits rest = kept_remains known n before items _ fs rest
+  item_remains n before items (Opaque text) fs fits rest = absurd fits
+  item_remains n before items (FuncItem f) fs fits rest = func_remains known gs n before items f fs fits.0 (body_stands known.names gs n f fits.1) rest
+
+  gap_remains : (n : ℕ) (before items : List DraftItem) (a b : Bool) (fs : List Line) → Remain known (n + length (gap_forms a b)) before fs items → Remain known n before (gap_forms a b ++ fs) items
+  gap_remains n before items false false fs rest = let same : n + 0 ≡ n = omega arith in subst (λ (k : ℕ). Remain known k before fs items) same rest
+  gap_remains n before items false true fs rest = empty_remains known n before items fs rest
+  gap_remains n before items true b fs rest = empty_remains known n before items fs rest
+
+  more_remain : (n : ℕ) (before : List DraftItem) (after : Bool) (is : List Item) → AreFittingItems known gs is → Remain known n before (more_items_forms gs after is) (before ++ more_draft_items gs n after is)
+  more_remain n before after [] fits = subst (λ (items : List DraftItem). Remain known n before [] items) (sym (append-nil before)) (none_remain known n before)
+  more_remain n before after (i ∷ is) fits =
+      let at : ℕ = n + length (gap_forms after (is_function i)) in
+      let behind : ℕ = at + length (item_forms gs i) in
+      let all : List DraftItem = before ++ more_draft_items gs n after (i ∷ is) in
+      let rest : Remain known behind (before ++ draft_item gs at i ∷ []) (more_items_forms gs (is_function i) is) all =
+      subst (λ (items : List DraftItem). Remain known behind (before ++ draft_item gs at i ∷ []) (more_items_forms gs (is_function i) is) items)
+      (append_assoc before (draft_item gs at i ∷ []) (more_draft_items gs behind (is_function i) is))
+      (more_remain behind (before ++ draft_item gs at i ∷ []) (is_function i) is fits.1) in
+      gap_remains n before all after (is_function i) (item_forms gs i ++ more_items_forms gs (is_function i) is)
+      (item_remains at before all i (more_items_forms gs (is_function i) is) fits.0 rest)
+
+  all_remain : (is : List Item) → AreFittingItems known gs is → Remain known 1 [] (items_forms gs is) (draft_items gs is)
+  all_remain [] fits = none_remain known 1 []
+  all_remain (i ∷ is) fits =
+      item_remains 1 [] (draft_items gs (i ∷ is)) i (more_items_forms gs (is_function i) is) fits.0
+      (more_remain (1 + length (item_forms gs i)) (draft_item gs 1 i ∷ []) (is_function i) is fits.1)
+
+-- ---- what is formed and printable fits
+
+free_of : (m : Module) (o : Opd) → IsAllowed m o → IsFree (barred_in (module_forms m)) m.globals o
+free_of m (Val id) h = h
+free_of m (Lit literal) h = h
+free_of m (Sym g) h = h
+
+abbrev Opds : Module → Inst → Type 0
+Opds m i = All (IsAllowed m) i.opds
+
+module _ (m : Module) (names : List (List ℕ)) (free : (o : Opd) → IsAllowed m o → IsFree names m.globals o) where
+  insts_fit : (number : ℕ) (is : List Inst) → ((k : ℕ) (i : Inst) → slice_get is k ≡ Some i → is_alloca i.op ≡ true → number ≡ 0) → All IsPlainInst is → All (Opds m) is → All (IsFitting names m.globals number) is
+  insts_fit number [] allocas plain allowed = All-nil (IsFitting names m.globals number)
+  insts_fit number (i ∷ is) allocas plain allowed =
+      let p : IsPlainInst i = All-head IsPlainInst i is plain in
+      let opds : All (IsAllowed m) i.opds = All-head (Opds m) i is allowed in
+      All-cons (IsFitting names m.globals number) i is
+      (record { named = p.named; other = p.other; free = λ k d within. free (slice_index_or i.opds k d) (opds k d within); allocas = allocas 0 i refl })
+      (insts_fit number is (λ k j e. allocas (suc k) j e) (All-tail IsPlainInst i is plain) (All-tail (Opds m) i is allowed))
+
+  block_fits : (f : Func) (number : ℕ) (b : Block) → IsFormedBlock m f number b → IsPlainBlock b → IsAllowedBlock m b → IsFittingBlock names m.globals number b
+  block_fits f number b formed plain allowed = record {
+    named = plain.named;
+    ends = formed.ends;
+    phis = formed.phis;
+    insts = insts_fit number b.insts (λ k i e. (formed.insts k i e).allocas) plain.insts allowed;
+  }
+
+  blocks_fit : (f : Func) (number : ℕ) (bs : List Block) → ((k : ℕ) (b : Block) → slice_get bs k ≡ Some b → IsFormedBlock m f (number + k) b) → All IsPlainBlock bs → All (IsAllowedBlock m) bs → AreFitting names m.globals number bs
+  blocks_fit f number [] formed plain allowed = tt
+  blocks_fit f number (b ∷ bs) formed plain allowed =
+      let here : number + 0 ≡ number = omega arith in (
+        block_fits f number b (subst (λ (k : ℕ). IsFormedBlock m f k b) here (formed 0 b refl)) (All-head IsPlainBlock b bs plain) (All-head (IsAllowedBlock m) b bs allowed),
+        blocks_fit f (number + 1) bs
+            (λ k c e. let next : number + suc k ≡ number + 1 + k = omega arith in subst (λ (j : ℕ). IsFormedBlock m f j c) next (formed (suc k) c e))
+            (All-tail IsPlainBlock b bs plain) (All-tail (IsAllowedBlock m) b bs allowed),
+      )
+
+  func_fits : (f : Func) → IsFormedFunc m f → IsPlainFunc f → All (IsAllowedBlock m) f.blocks → length (named_of f) < 2 ^ 64 → Apart (item_ids (FuncItem f)) → IsFittingFunc names m.globals f
+  func_fits f formed plain allowed small apart = record {
+    params = plain.params;
+    some = formed.some;
+    blocks = blocks_fit f 0 f.blocks (λ k b e. let same : k ≡ 0 + k = omega arith in subst (λ (j : ℕ). IsFormedBlock m f j b) same (formed.blocks k b e)) plain.blocks allowed;
+    apart = apart;
+    small = small;
+  }
+
+-- ids of one item are apart where those of all are
+none_front : (id : Id) (xs ys : List Id) → IsNone id (xs ++ ys) → IsNone id xs
+none_front id [] ys h = tt
+none_front id (x ∷ xs) ys h = (h.0, none_front id xs ys h.1)
+
+apart_front : (xs ys : List Id) → Apart (xs ++ ys) → Apart xs
+apart_front [] ys h = tt
+apart_front (x ∷ xs) ys h = (none_front x xs ys h.0, apart_front xs ys h.1)
+
+apart_behind : (xs ys : List Id) → Apart (xs ++ ys) → Apart ys
+apart_behind [] ys h = h
+apart_behind (x ∷ xs) ys h = apart_behind xs ys h.1
+
+module _ (m : Module) (known : Known) (free : (o : Opd) → IsAllowed m o → IsFree known.names m.globals o) where
+  item_fits : (i : Item) (is : List Item) → IsFormedItem m i → IsPlainItem i → IsAllowedItem m i → IsCountedItem i → Apart (item_ids i) → (has_function (i ∷ is) ≡ true → known.other_pointers ≡ false) → IsFittingItem known m.globals i
+  item_fits (Kept text) is formed plain allowed counted apart pointers = tt
+  item_fits (Opaque text) is formed plain allowed counted apart pointers = plain
+  item_fits (FuncItem f) is formed plain allowed counted apart pointers = (pointers refl, func_fits m known.names free f formed plain allowed counted apart)
+
+  function_behind : (i : Item) (is : List Item) → has_function is ≡ true → has_function (i ∷ is) ≡ true
+  function_behind (Kept text) is h = h
+  function_behind (Opaque text) is h = h
+  function_behind (FuncItem f) is h = refl
+
+  items_fit : (is : List Item) → All (IsFormedItem m) is → All IsPlainItem is → All (IsAllowedItem m) is → All IsCountedItem is → Apart (ids_of_items is) → (has_function is ≡ true → known.other_pointers ≡ false) → AreFittingItems known m.globals is
+  items_fit [] formed plain allowed counted apart pointers = tt
+  items_fit (i ∷ is) formed plain allowed counted apart pointers = (
+    item_fits i is (All-head (IsFormedItem m) i is formed) (All-head IsPlainItem i is plain) (All-head (IsAllowedItem m) i is allowed) (All-head IsCountedItem i is counted) (apart_front (item_ids i) (ids_of_items is) apart) pointers,
+    items_fit is (All-tail (IsFormedItem m) i is formed) (All-tail IsPlainItem i is plain) (All-tail (IsAllowedItem m) i is allowed) (All-tail IsCountedItem i is counted) (apart_behind (item_ids i) (ids_of_items is) apart)
+        (λ h. pointers (function_behind i is h)),
+  )
+
+pub forms_are_placed : (m : Module) → IsFormed m → IsPrintable m → IsCounted m → items_of (module_forms m) ≡ Ok (printed_items m)
+forms_are_placed m formed printable counted =
+    let known : Known = outlook_of (map Some (module_forms m)) in
+    all_remain known m.globals m.items (items_fit m known (free_of m) m.items formed.items printable.items printable.operands counted (pairs_apart _ formed.once) printable.pointers) nothing_done refl
