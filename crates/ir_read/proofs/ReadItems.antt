@@ -1,5 +1,5 @@
 -- A text that is items: what is known of each item by the lines that it was read from, and what the lines say for the whole text.
-use Rattle.std.proofs.Common.{◌≡◌, ℕ, ◌+◌, Bool, true, false, cond, not, ◌&&◌, ◌||◌, List, [], ◌∷◌, ◌++◌, length, map, Option, Some, None, Result, Ok, Err, nat_eq, refl, sym, ◌∙◌, ap, subst, append_assoc}
+use Rattle.std.proofs.Common.{◌≡◌, ℕ, ◌+◌, Bool, true, false, cond, ◌||◌, List, [], ◌∷◌, ◌++◌, map, Option, Some, None, Result, Ok, Err, refl, sym, ◌∙◌, ap, subst, append_assoc}
 use Rattle.std.proofs.lemmas.List.{append-nil, map-append}
 use Rattle.std.specs.List.{All, AllZip}
 use Rattle.std.proofs.lemmas.List.Elements.{All-nil, All-push}
@@ -22,13 +22,13 @@ use Rattle.ir_read.specs.declared.progress.Progress.{Progress}
 use Rattle.ir_read.specs.declared.refusal.ReadRefusal.{ReadRefusal}
 use Rattle.ir_read.specs.Answers.{◌>>=◌}
 use Rattle.ir_read.specs.Numbers.{after_params}
-use Rattle.ir_read.specs.Position.{start, after_label, after_stmt, after_case, after_cases, at_close}
-use Rattle.ir_read.specs.Function.{is_foreign, is_outside, any_barred, after_inst, after_line, opened_by, with_line}
+use Rattle.ir_read.specs.Position.{start, after_label, after_case, after_cases, at_close}
+use Rattle.ir_read.specs.Function.{is_foreign, is_outside, any_barred, after_inst, opened_by, with_line}
 use Rattle.ir_read.specs.Lines.{lines_of}
-use Rattle.ir_read.specs.Forms.{form_in, inside_after, forms_from, forms_of}
-use Rattle.ir_read.specs.Outlook.{with_form, gives_pointers, nothing_seen, with_line as seen_with, seen_from, outlook_of}
-use Rattle.ir_read.specs.Draft.{nothing_done, between, going_on, with_kept, closed, placed, line_inside, header_line, line_outside, line_at, step}
-use Rattle.ir_read.specs.Items.{closed_items, items_from, items_of, barred_in, has_other_pointers, IsItems}
+use Rattle.ir_read.specs.Forms.{form_in, inside_after, forms_from}
+use Rattle.ir_read.specs.Outlook.{nothing_seen, with_line as seen_with, seen_from, outlook_of}
+use Rattle.ir_read.specs.Draft.{nothing_done, between, going_on, with_kept, closed, line_inside, header_line, line_outside, line_at, step}
+use Rattle.ir_read.specs.Items.{closed_items, items_from, barred_in, has_other_pointers, IsItems}
 
 clash : {P : Type 0} → true ≡ false → P
 clash e = cc
@@ -128,11 +128,10 @@ allowed names p s e =
     (no_call p s.op parts.0, parts.1)
 
 module _ (FineKept : Kept → Type 0) (FineHead : Head → Type 0) (FineLine : Line → Type 0) (first : Head → Option (List ℕ))
-  (kept_fine : (l : List ℕ) (kept : Kept) → form_in false l ≡ Some (line.Kept kept) → FineKept kept)
-  (head_fine : (l : List ℕ) (name : Option (List ℕ)) (h : Head) → form_in false l ≡ Some (line.Define name (Some h)) → FineHead h)
-  (head_name : (l : List ℕ) (name : Option (List ℕ)) (h : Head) → form_in false l ≡ Some (line.Define name (Some h)) → name ≡ first h)
-  (line_fine : (l : List ℕ) (form : Line) → form_in true l ≡ Some form → FineLine form) where
-
+    (kept_fine : (l : List ℕ) (kept : Kept) → form_in false l ≡ Some (line.Kept kept) → FineKept kept)
+    (head_fine : (l : List ℕ) (name : Option (List ℕ)) (h : Head) → form_in false l ≡ Some (line.Define name (Some h)) → FineHead h)
+    (head_name : (l : List ℕ) (name : Option (List ℕ)) (h : Head) → form_in false l ≡ Some (line.Define name (Some h)) → name ≡ first h)
+    (line_fine : (l : List ℕ) (form : Line) → form_in true l ≡ Some form → FineLine form) where
   -- what an item says for the whole text
   abbrev pub item_line : DraftItem → Line
   item_line (item.Kept n kept) = line.Kept kept

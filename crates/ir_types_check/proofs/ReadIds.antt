@@ -1,6 +1,6 @@
 -- The ids of a module that resolved: 0, 1 and so on in order of the text.
-use Rattle.std.proofs.Common.{◌≡◌, ℕ, zero, suc, ◌+◌, List, [], ◌∷◌, ◌++◌, length, map, Option, Some, None, Result, Ok, Err, refl, sym, ◌∙◌, ap, subst, arith, append_assoc, length-append}
-use Rattle.std.proofs.lemmas.List.{append-nil, map-append}
+use Rattle.std.proofs.Common.{◌≡◌, ℕ, zero, suc, ◌+◌, List, [], ◌∷◌, ◌++◌, length, map, Option, None, Ok, refl, sym, ◌∙◌, ap, subst, arith, append_assoc, length-append}
+use Rattle.std.proofs.lemmas.List.{append-nil}
 use Rattle.ir_types.specs.declared.id.Id.{Id}
 use Rattle.ir_types.specs.declared.inst.Inst.{Inst}
 use Rattle.ir_types.specs.declared.func.Param.{Param}
@@ -18,17 +18,12 @@ use Rattle.ir_line.specs.declared.draft.DraftItem.{DraftItem}
 use Rattle.ir_line.specs.declared.draft.DraftItem.TheVariants as item
 use Rattle.ir_types_check.specs.declared.locals.Meaning.{Meaning}
 use Rattle.ir_types_check.specs.declared.tops.Top.{Top}
-use Rattle.ir_types_check.specs.declared.tops.Tops.{Tops}
-use Rattle.ir_types_check.specs.declared.links.Linked.{Linked}
 use Rattle.ir_types_check.specs.declared.building.Built.{Built}
 use Rattle.ir_types_check.specs.declared.building.Done.{Done}
-use Rattle.ir_types_check.specs.declared.resolved.Resolved.{Resolved}
-use Rattle.ir_types_check.specs.declared.refusal.ResolveRefusal.{ResolveRefusal}
-use Rattle.ir_types_check.specs.Answers.{◌>>=◌}
 use Rattle.ir_types_check.specs.Scope.{Scope}
 use Rattle.ir_types_check.specs.Locals.{locals_of}
 use Rattle.ir_types_check.specs.Links.{linked, cases_of}
-use Rattle.ir_types_check.specs.Blocks.{id_of, inst_of, closed, with_inst, labelled, with_statement, built_line, built_lines, param_of, params_from, param_lines, func_of, built_of}
+use Rattle.ir_types_check.specs.Blocks.{id_of, inst_of, closed, with_inst, labelled, with_statement, built_line, built_lines, params_from, param_lines, func_of, built_of}
 use Rattle.ir_types_check.specs.Resolved.{with_built, resolved_function, with_kept, resolved_item, resolved_items, module_of}
 use Rattle.ir_types_check.specs.Named.{Names}
 use Rattle.ir_types_check.proofs.Binding.{bind_ok, ok_is}

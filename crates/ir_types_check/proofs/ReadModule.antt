@@ -1,5 +1,5 @@
 -- What a module is whose names are known: each of its items is made of one of the draft's, and no name is given twice.
-use Rattle.std.proofs.Common.{◌≡◌, ℕ, ◌⊎◌, inl, inr, List, [], ◌∷◌, ◌++◌, length, Option, Some, None, Result, Ok, Err, refl, sym, ◌∙◌, ap, subst, append_assoc}
+use Rattle.std.proofs.Common.{◌≡◌, ℕ, ◌⊎◌, inl, inr, List, [], ◌∷◌, ◌++◌, length, Option, None, Ok, refl, sym, ◌∙◌, ap, subst, append_assoc}
 use Rattle.std.proofs.lemmas.List.{append-nil}
 use Rattle.std.specs.List.{All, AllZip}
 use Rattle.ir_types.specs.declared.inst.Inst.{Inst}
@@ -18,15 +18,11 @@ use Rattle.ir_line.specs.declared.draft.DraftItem.{DraftItem}
 use Rattle.ir_line.specs.declared.draft.DraftItem.TheVariants as item
 use Rattle.ir_types_check.specs.declared.locals.Locals.{Locals}
 use Rattle.ir_types_check.specs.declared.tops.Top.{Top}
-use Rattle.ir_types_check.specs.declared.tops.Tops.{Tops}
-use Rattle.ir_types_check.specs.declared.building.Built.{Built}
 use Rattle.ir_types_check.specs.declared.building.Done.{Done}
-use Rattle.ir_types_check.specs.declared.refusal.ResolveRefusal.{ResolveRefusal}
-use Rattle.ir_types_check.specs.Answers.{◌>>=◌}
 use Rattle.ir_types_check.specs.Scope.{Scope}
 use Rattle.ir_types_check.specs.Outline.{written_name}
 use Rattle.ir_types_check.specs.Locals.{locals_of}
-use Rattle.ir_types_check.specs.Blocks.{inst_of, closed, params_from, param_lines, func_of, built_of}
+use Rattle.ir_types_check.specs.Blocks.{closed, params_from, param_lines, func_of, built_of}
 use Rattle.ir_types_check.specs.Resolved.{with_built, resolved_function, with_kept, resolved_item, resolved_items, module_of, big_endian_line}
 use Rattle.ir_types_check.specs.Named.{Names}
 use Rattle.ir_types_check.proofs.Binding.{bind_ok, ok_is}
@@ -96,19 +92,20 @@ module _ (FineLabel : List ℕ → Type 0) (FineStmt : Stmt → Type 0) (FineOpd
           bind_ok (locals_of n head body) _ after e (λ l known_l then'.
           bind_ok (built_of tops l.scope n done.lines head body) _ after then' (λ b was is.
           let base : ℕ = length done.lines in
-          let lines : List ℕ = param_lines n done.lines head.params in
-          (func_of base head (closed b.blocks b.current),
-          record {
-            base = base;
-            before = refl;
-            ret = refl;
-            name = refl;
-            params = refl;
-            after = refl;
-            blocks = blocks_fine IsFineName IsInst tops l.scope base lines b body (inl refl) (body_makes l base body each) was;
-            apart = names_apart tops l.scope base n base head body l lines b known_l was;
-          },
-          sym (ap (λ (x : Done). x.items) (ok_is is)))))
+          let lines : List ℕ = param_lines n done.lines head.params in (
+            func_of base head (closed b.blocks b.current),
+            record {
+              base = base;
+              before = refl;
+              ret = refl;
+              name = refl;
+              params = refl;
+              after = refl;
+              blocks = blocks_fine IsFineName IsInst tops l.scope base lines b body (inl refl) (body_makes l base body each) was;
+              apart = names_apart tops l.scope base n base head body l lines b known_l was;
+            },
+            sym (ap (λ (x : Done). x.items) (ok_is is)),
+          )))
 
       item_made : (done after : Done) (x : DraftItem) → IsFineItem x → resolved_item tops done x ≡ Ok after → (i : Item) × IsItemOf x i × (after.items ≡ done.items ++ i ∷ [])
       unfolding with_kept

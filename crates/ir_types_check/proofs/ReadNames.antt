@@ -1,5 +1,5 @@
 -- The names of a function that resolved: those that are written stand in its parameters, labels and results in order, and none twice.
-use Rattle.std.proofs.Common.{◌≡◌, ℕ, zero, suc, ◌+◌, ◌/◌, ◌%◌, ◌<◌, ◌≤◌, ◌==◌, Bool, true, false, cond, if◌then◌else◌, List, [], ◌∷◌, ◌++◌, length, Option, Some, None, Result, Ok, Err, refl, sym, ◌∙◌, ap, subst, arith, bytes_eq, nat_lt, append_assoc}
+use Rattle.std.proofs.Common.{◌≡◌, ℕ, zero, suc, ◌+◌, ◌/◌, ◌%◌, ◌<◌, ◌==◌, Bool, true, false, cond, if◌then◌else◌, List, [], ◌∷◌, ◌++◌, length, Option, Some, None, Ok, refl, sym, ◌∙◌, ap, subst, arith, bytes_eq, nat_lt, append_assoc}
 use Rattle.std.proofs.lemmas.Bool.Decides.{nat_tests}
 use Rattle.std.proofs.lemmas.Nat.{mod_below}
 use Rattle.std.proofs.lemmas.List.{append-nil}
@@ -23,15 +23,12 @@ use Rattle.ir_types_check.specs.declared.locals.Meaning.{Meaning}
 use Rattle.ir_types_check.specs.declared.locals.Meaning.TheVariants.{Value, Block as BlockMeaning}
 use Rattle.ir_types_check.specs.declared.locals.Locals.{Locals}
 use Rattle.ir_types_check.specs.declared.tops.Top.{Top}
-use Rattle.ir_types_check.specs.declared.links.Linked.{Linked}
 use Rattle.ir_types_check.specs.declared.building.Built.{Built}
-use Rattle.ir_types_check.specs.declared.refusal.ResolveRefusal.{ResolveRefusal}
-use Rattle.ir_types_check.specs.Answers.{◌>>=◌}
 use Rattle.ir_types_check.specs.Scope.{Scope, meaning, define, of_function}
 use Rattle.ir_types_check.specs.Outline.{is_number, written_name, written, param_name, opened, behind_param, behind_label, behind_inst, start}
 use Rattle.ir_types_check.specs.Locals.{with_name, with_param, with_params, with_label, with_opened, with_result, with_stmt, with_line, with_lines, locals_of}
 use Rattle.ir_types_check.specs.Links.{linked, cases_of}
-use Rattle.ir_types_check.specs.Blocks.{inst_of, closed, with_inst, labelled, with_statement, built_line, built_lines, params_from}
+use Rattle.ir_types_check.specs.Blocks.{inst_of, closed, with_statement, built_line, built_lines, params_from}
 use Rattle.ir_types_check.proofs.Binding.{bind_ok, ok, ok_is, cond_not, clash}
 use Rattle.ir_types_check.proofs.ReadParts.{parts, built_parts, inst_built, label_built}
 

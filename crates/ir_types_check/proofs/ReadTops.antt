@@ -1,20 +1,16 @@
 -- The names of a module that resolved: none twice, and the globals among them by their places.
-use Rattle.std.proofs.Common.{◌≡◌, ℕ, ◌+◌, Bool, true, false, List, [], ◌∷◌, ◌++◌, length, Option, Some, None, Result, Ok, Err, refl, sym, ◌∙◌, ap, subst, arith, append_assoc, ◌⊎◌, inl, inr}
+use Rattle.std.proofs.Common.{◌≡◌, ℕ, ◌+◌, Bool, true, false, List, [], ◌∷◌, ◌++◌, length, Option, Some, None, Ok, refl, sym, ◌∙◌, ap, subst, arith, append_assoc, inl, inr}
 use Rattle.std.proofs.lemmas.List.{append-nil}
 use Rattle.std.specs.Prelude.{slice_get}
-use Rattle.ir_line.specs.declared.head.Head.{Head}
-use Rattle.ir_line.specs.declared.draft.Numbered.{Numbered}
 use Rattle.ir_line.specs.declared.draft.DraftItem.{DraftItem}
 use Rattle.ir_line.specs.declared.draft.DraftItem.TheVariants as item
 use Rattle.ir_types_check.specs.declared.tops.Top.{Top}
 use Rattle.ir_types_check.specs.declared.tops.Top.TheVariants.{Global, Function, Other}
 use Rattle.ir_types_check.specs.declared.tops.Tops.{Tops}
-use Rattle.ir_types_check.specs.declared.refusal.ResolveRefusal.{ResolveRefusal}
-use Rattle.ir_types_check.specs.Answers.{◌>>=◌}
-use Rattle.ir_types_check.specs.Scope.{Scope, meaning, define, of_module}
+use Rattle.ir_types_check.specs.Scope.{meaning, define, of_module}
 use Rattle.ir_types_check.specs.Locals.{locals_of}
-use Rattle.ir_types_check.specs.Tops.{with_top, with_global, with_symbol, with_opaque, signature_of, with_function, with_item, with_items, tops_of}
-use Rattle.ir_types_check.proofs.Binding.{bind_ok, ok_is, some_is}
+use Rattle.ir_types_check.specs.Tops.{with_top, with_global, with_symbol, signature_of, with_function, with_item, with_items, tops_of}
+use Rattle.ir_types_check.proofs.Binding.{bind_ok, ok_is}
 use Rattle.ir_types_check.proofs.BodyScope.{get_front, get_back, found, defined}
 use Rattle.ir_types_check.proofs.ReadNames.{Apart, apart_none, onto, keys, Defined, defined_keys}
 use Rattle.ir_types_check.proofs.ReadLinks.{AreKnown}
@@ -83,9 +79,9 @@ top_grown n t after name top none e =
       apart = d.apart;
       globals_are = sym (append-nil t.globals);
       known = λ h x g m. elim (found x t.scope name top (Global g) (subst (λ s. meaning x s ≡ Some (Global g)) (defined n of_module name top t.scope scope was) m)) [
-          inl old ↦ h x g old
+        | inl old ↦ h x g old
         | inr new ↦ no_global top g none new.1
-        ];
+      ];
     }))
 
 global_grown : (n : ℕ) (t after : Tops) (name : List ℕ) → with_global n t name ≡ Ok after → Grown t after (name ∷ []) (name ∷ [])
@@ -98,11 +94,11 @@ global_grown n t after name e =
       apart = d.apart;
       globals_are = refl;
       known = λ h x g m. elim (found x t.scope name (Global (length t.globals)) (Global g) (subst (λ s. meaning x s ≡ Some (Global g)) (defined n of_module name (Global (length t.globals)) t.scope scope was) m)) [
-          inl old ↦ get_front t.globals (name ∷ []) g x (h x g old)
+        | inl old ↦ get_front t.globals (name ∷ []) g x (h x g old)
         | inr new ↦
             let at : length t.globals + 0 ≡ g = omega (arith, global_is new.1) in
             subst (λ k. slice_get (t.globals ++ name ∷ []) k ≡ Some x) at (get_back t.globals (name ∷ []) 0 ∙ ap Some (sym new.0))
-        ];
+      ];
     }))
 
 symbol_grown : (n : ℕ) (t after : Tops) (global : Bool) (symbol : Option (List ℕ)) → with_symbol n t global symbol ≡ Ok after → Grown t after (onto symbol []) (global_part global symbol)
