@@ -8,6 +8,7 @@ pub mod Lists
 pub mod OutsideLines
 pub mod Parts
 pub mod Places
+pub mod PoisonPointers
 pub mod PowerAligns
 pub mod SoundForms
 pub mod SoundLines

@@ -252,7 +252,7 @@ no_from : (b : Bool) → not b ≡ true → b ≡ false
 no_from true h = cc
 no_from false h = refl
 
-quiet_symbol : (qs : Words) → list_all is_quiet qs ≡ true → first_symbol qs ≡ None
+pub quiet_symbol : (qs : Words) → list_all is_quiet qs ≡ true → first_symbol qs ≡ None
 quiet_symbol [] h = refl
 quiet_symbol (q ∷ qs) h =
     let one : is_quiet q ≡ true = (both (is_quiet q) _ h).0 in

@@ -48,10 +48,10 @@ pub record TokenRun (line : List ℕ) (ts : List Token) : Type 0 where
   pub sound : fault_of line ≡ None
   pub ascii : list_all is_ascii (words line (cut line)) ≡ true
 
-run_first : {line : List ℕ} (ts us : List Token) → TokenRun line (ts ++ us) → TokenRun line ts
+pub run_first : {line : List ℕ} (ts us : List Token) → TokenRun line (ts ++ us) → TokenRun line ts
 run_first ts us r = record { front = r.front; back = us ++ r.back; whole = r.whole ∙ ap (λ (x : List Token). r.front ++ x) (append_assoc ts us r.back); sound = r.sound; ascii = r.ascii }
 
-run_second : {line : List ℕ} (ts us : List Token) → TokenRun line (ts ++ us) → TokenRun line us
+pub run_second : {line : List ℕ} (ts us : List Token) → TokenRun line (ts ++ us) → TokenRun line us
 run_second ts us r = record {
   front = r.front ++ ts;
   back = r.back;
@@ -60,15 +60,15 @@ run_second ts us r = record {
   ascii = r.ascii;
 }
 
-run_take : {line : List ℕ} (n : ℕ) (ts : List Token) → TokenRun line ts → TokenRun line (take n ts)
+pub run_take : {line : List ℕ} (n : ℕ) (ts : List Token) → TokenRun line ts → TokenRun line (take n ts)
 run_take {line} n ts r = run_first (take n ts) (drop n ts) (subst (TokenRun line) (sym (take-append-drop n ts)) r)
 
-run_drop : {line : List ℕ} (n : ℕ) (ts : List Token) → TokenRun line ts → TokenRun line (drop n ts)
+pub run_drop : {line : List ℕ} (n : ℕ) (ts : List Token) → TokenRun line ts → TokenRun line (drop n ts)
 run_drop {line} n ts r = run_second (take n ts) (drop n ts) (subst (TokenRun line) (sym (take-append-drop n ts)) r)
 
 -- its words are tokens, and begin with ASCII
 
-words_front : (ws us : Words) → AreWords (ws ++ us) → AreWords ws
+pub words_front : (ws us : Words) → AreWords (ws ++ us) → AreWords ws
 words_front [] us h = tt
 words_front ([] ∷ ws) us h = h
 words_front ((b ∷ bs) ∷ ws) us h = (h.0, words_front ws us h.1)
@@ -78,7 +78,7 @@ words_back [] us h = h
 words_back ([] ∷ ws) us h = absurd h
 words_back ((b ∷ bs) ∷ ws) us h = words_back ws us h.1
 
-run_words : {line : List ℕ} (ts : List Token) → TokenRun line ts → AreWords (words line ts)
+pub run_words : {line : List ℕ} (ts : List Token) → TokenRun line ts → AreWords (words line ts)
 run_words {line} ts r =
     let all : AreWords (words line (cut line)) = subst AreWords (sym (words_of_line line)) (texts_are line) in
     let apart : words line (cut line) ≡ words line r.front ++ (words line ts ++ words line r.back) =
@@ -118,7 +118,7 @@ run_kept {line} (t ∷ ts) r =
 -- ---- names
 
 -- the plain name of a symbol
-symbol_name : (w name : List ℕ) → AreWords (w ∷ []) → symbol_of w ≡ Some name → is_name name ≡ true
+pub symbol_name : (w name : List ℕ) → AreWords (w ∷ []) → symbol_of w ≡ Some name → is_name name ≡ true
 unfolding symbol_of is_mark is_word_byte begins_name
 symbol_name [] name h e = nothing e
 symbol_name (b ∷ bs) name h e = here (nat_eq b 64) refl e where
@@ -164,21 +164,21 @@ second_true : (a b : Bool) → b ≡ true → a || b ≡ true
 second_true true b h = refl
 second_true false b h = h
 
-name_local : (name : List ℕ) → is_name name ≡ true → is_local_name name ≡ true
+pub name_local : (name : List ℕ) → is_name name ≡ true → is_local_name name ≡ true
 name_local name h = first_true (is_name name) _ h
 
-number_local : (d : ℕ) (ds : List ℕ) → is_number (d ∷ ds) ≡ true → is_local_name (plain_number (d ∷ ds)) ≡ true
+pub number_local : (d : ℕ) (ds : List ℕ) → is_number (d ∷ ds) ≡ true → is_local_name (plain_number (d ∷ ds)) ≡ true
 number_local d ds h =
     let n : List ℕ = plain_number (d ∷ ds) in
     let same : bytes_eq (plain_number n) n ≡ true = ap (λ (x : List ℕ). bytes_eq x n) (plain_once (d ∷ ds)) ∙ bytes_same n in
     second_true (is_name n) _ (rw (plain_digits d ds h, same) refl)
 
-name_no_digit : (b : ℕ) → begins_name b ≡ true → is_ascii_digit b ≡ false
+pub name_no_digit : (b : ℕ) → begins_name b ≡ true → is_ascii_digit b ≡ false
 unfolding begins_name
 name_no_digit b h = grind (arith, nat_tests)
 
 -- the name of a local
-local_name : (w name : List ℕ) → AreWords (w ∷ []) → local_of w ≡ Some name → is_local_name name ≡ true
+pub local_name : (w name : List ℕ) → AreWords (w ∷ []) → local_of w ≡ Some name → is_local_name name ≡ true
 unfolding local_of named is_mark is_word_byte begins_name is_digit
 local_name [] name h e = nothing e
 local_name (b ∷ bs) name h e = here (nat_eq b 37) refl e where
@@ -271,7 +271,7 @@ param_found line at ts p r e more =
     bind_then (ty_at (words line ts)) (λ t. attributed line at t.0 (drop (ty_len t.0) ts)) p e (λ t et e2.
     attributed_found line at t.0 (drop (ty_len t.0) ts) p (spelled_value (ty_taken (words line ts) t et)) (run_drop (ty_len t.0) ts r) e2 more)
 
-first_more : (line v : List ℕ) (ts : List Token) → is_first v (words line ts) ≡ true → 0 < length ts
+pub first_more : (line v : List ℕ) (ts : List Token) → is_first v (words line ts) ≡ true → 0 < length ts
 first_more line v [] h = cc
 first_more line v (t ∷ ts) h = omega arith
 
@@ -319,13 +319,13 @@ all_written (p ∷ ps) h (suc k) d l = all_written ps h.1 k d (omega (arith, l))
 -- ---- what stands before the name
 
 -- the words before the name are passed
-record NameAt (d : ℕ) (ws : Words) (from n : ℕ) : Type 0 where
-  count : ℕ
-  is : n ≡ from + count
-  within : count ≤ length ws
-  passed : are_passed d (take count ws) ≡ true
+pub record NameAt (d : ℕ) (ws : Words) (from n : ℕ) : Type 0 where
+  pub count : ℕ
+  pub is : n ≡ from + count
+  pub within : count ≤ length ws
+  pub passed : are_passed d (take count ws) ≡ true
 
-name_found : (from d n : ℕ) (ws : Words) → name_from from d ws ≡ Some n → NameAt d ws from n
+pub name_found : (from d n : ℕ) (ws : Words) → name_from from d ws ≡ Some n → NameAt d ws from n
 name_found from d n [] e = nothing e
 name_found from d n (t ∷ ts) e =
     cond_then (is_callee d t ts) _ _ _ e
@@ -351,7 +351,7 @@ name_found from d n (t ∷ ts) e =
 
 -- ---- the whole
 
-take_less : {A : Type 0} (k n : ℕ) (xs : List A) → k ≤ n → take k (take n xs) ≡ take k xs
+pub take_less : {A : Type 0} (k n : ℕ) (xs : List A) → k ≤ n → take k (take n xs) ≡ take k xs
 take_less zero n xs l = refl
 take_less (suc k) zero xs l = absurd (omega (arith, l))
 take_less (suc k) (suc n) [] l = refl
@@ -408,11 +408,11 @@ header_is_head line h sound e =
     (λ _ none. nothing none)
 
 -- the head of a line that defines
-abbrev head_in : Line → Option Head
+abbrev pub head_in : Line → Option Head
 head_in (line.Define name head) = head
 head_in _ = None
 
-spelled_head : (l : List ℕ) (ts : List Token) (form : Line) (h : Head) → Spells l ts form → head_in form ≡ Some h → header l ts ≡ Some h
+pub spelled_head : (l : List ℕ) (ts : List Token) (form : Line) (h : Head) → Spells l ts form → head_in form ≡ Some h → header l ts ≡ Some h
 spelled_head l ts _ h (NoWord e) same = nothing same
 spelled_head l ts _ h (KeptLine k) same = nothing same
 spelled_head l ts _ h (Defined d o) same = same

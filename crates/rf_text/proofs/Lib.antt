@@ -42,6 +42,12 @@ pub mod PlacedInsts
 pub mod PlacedItems
 pub mod PlacedModule
 pub mod PlacedNames
+pub mod ReadableForms
+pub mod ReadableHeads
+pub mod ReadableItems
+pub mod ReadableLines
+pub mod ReadableModule
+pub mod ReadableNames
 pub mod Renumbering
 pub mod Splitting
 pub mod TextLines

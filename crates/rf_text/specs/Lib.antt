@@ -8,6 +8,7 @@ pub mod NamedItems
 pub mod PlacedForms
 pub mod Printable
 pub mod Printed
+pub mod Readable
 pub mod Reads
 pub mod Renumbered
 pub mod Shown

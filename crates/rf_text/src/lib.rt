@@ -9,6 +9,7 @@ mod instructions;
 mod named_items;
 mod outside;
 mod placed_forms;
+mod readable;
 mod text_lines;
 
 pub use again::texts_are_read_again;
@@ -19,4 +20,5 @@ pub use outside::{
     kept_lines_again, lines_again, params_are_shown, sound_are_lines,
 };
 pub use placed_forms::forms_are_placed;
+pub use readable::{read_modules_are_numbered, read_modules_are_printable};
 pub use text_lines::texts_are_lines;
