@@ -23,6 +23,7 @@ use Rattle.ir_types_check.specs.Resolved.{resolved_of}
 use Rattle.ir_read.proofs.ItemsRead.{draft_items}
 use Rattle.ir_types_check.proofs.NamesHold.{names_hold}
 use Rattle.rf_formed.proofs.AcceptedModules.{formed, numbered}
+use Rattle.rf_text.proofs.ReadableModule.{read_back}
 use Rattle.vec_top.specs.declared.cause.Cause.{Cause}
 use Rattle.vec_top.specs.declared.cause.Cause.TheVariants.{Lex, NotALine, Misplaced, Passes, TwiceDefined, Unknown, IllTyped, NotAvailable, BigEndian}
 use Rattle.vec_top.specs.declared.fault.Fault.{Fault}
@@ -131,6 +132,6 @@ ordered bytes r (Err NoMemory) resolves fine o = absurd o
 pub ready : (bytes : List ℕ) (m : Module) → Accepts bytes m → IsReady m
 ready bytes m a = record {
   formed = a.formed;
-  printable = ?;
+  printable = (read_back bytes m a.reads a.little_endian).0;
   numbered = numbered bytes a.resolves.draft (record { «module» = m; lines = a.lines }) a.resolves.drafted a.resolves.resolved;
 }

@@ -1,6 +1,8 @@
 -- A module that is counted has functions whose values and blocks can be numbered.
-use Rattle.std.proofs.Common.{◌≡◌, ℕ, ◌+◌, ◌-◌, ◌^◌, ◌<◌, ◌≤◌, Bool, true, false, ◌&&◌, List, [], ◌∷◌, ◌++◌, length, refl, sym, arith, ap, subst}
-use Rattle.std.specs.Prelude.{nat_lt}
+use Rattle.std.proofs.Common.{◌≡◌, ℕ, ◌+◌, ◌-◌, ◌^◌, ◌<◌, ◌≤◌, Bool, true, false, ◌&&◌, List, [], ◌∷◌, ◌++◌, length, drop, refl, sym, ◌∙◌, arith, ap, subst}
+use Rattle.std.proofs.Math.Nat.{min-eq_left}
+use Rattle.std.proofs.Math.ListN.{drop_of_length-le}
+use Rattle.std.specs.Prelude.{nat_lt, min}
 use Rattle.std.specs.List.{All, list_all}
 use Rattle.std.proofs.lemmas.Bool.Decides.{nat_tests}
 use Rattle.std.proofs.lemmas.List.Elements.{All-nil, All-cons}
@@ -55,3 +57,11 @@ items_counted (i ∷ is) e =
 
 pub counted : (m : Module) → are_counted m ≡ true → IsCounted m
 counted m e = items_counted m.items e
+
+-- behind the last of some blocks all are counted
+pub counted_whole : (count start bound : ℕ) (bs : List Block) (i : ℕ) → count ≤ bound → length bs ≤ i → min (count + blocks_size (drop i bs)) bound ≡ min (start + blocks_size bs) bound → count ≡ min (start + blocks_size bs) bound
+counted_whole count start bound bs i few past e =
+    let none : drop i bs ≡ [] = drop_of_length-le bs past in
+    let size : blocks_size (drop i bs) ≡ 0 = ap blocks_size none in
+    let same : count + blocks_size (drop i bs) ≡ count = omega (arith, size) in
+    sym (min-eq_left few) ∙ sym (ap (λ k. min k bound) same) ∙ e
