@@ -20,12 +20,16 @@ use Rattle.ir_avail.specs.Verdict.{BlamesFirst}
 use Rattle.ir_types_check.specs.declared.refusal.ResolveRefusal.{ResolveRefusal}
 use Rattle.ir_types_check.specs.declared.resolved.Resolved.{Resolved}
 use Rattle.ir_types_check.specs.Resolved.{resolved_of}
+use Rattle.ir_read.proofs.ItemsRead.{draft_items}
+use Rattle.ir_types_check.proofs.NamesHold.{names_hold}
+use Rattle.rf_formed.proofs.AcceptedModules.{formed, numbered}
+use Rattle.rf_text.proofs.ReadableModule.{read_back}
 use Rattle.vec_top.specs.declared.cause.Cause.{Cause}
 use Rattle.vec_top.specs.declared.cause.Cause.TheVariants.{Lex, NotALine, Misplaced, Passes, TwiceDefined, Unknown, IllTyped, NotAvailable, BigEndian}
 use Rattle.vec_top.specs.declared.fault.Fault.{Fault}
 use Rattle.vec_top.specs.declared.fault.Fault.TheVariants.{Refused, Word, ReadFault, WriteFault, TooLong, NoMemory}
 use Rattle.vec_top.specs.Accepts.{Resolves, Accepts, IsUnresolved, IsMissed, IsCause}
-use Rattle.vec_top.specs.Making.{EndsBy, Blames, Orders, AcceptsTo}
+use Rattle.vec_top.specs.Making.{EndsBy, Blames, Orders, AcceptsTo, IsReady}
 
 -- the first use that is not available is not available
 
@@ -87,7 +91,7 @@ refused_for_good bytes (Unknown line name) c m a = unresolved bytes _ _ c a.reso
 refused_for_good bytes (IllTyped line) c m a = unresolved bytes _ _ c a.resolves
 refused_for_good bytes (NotAvailable line name walk) c m a =
     let same : c.0.«module» ≡ m = ap (λ (r : Resolved). r.«module») (resolves_once bytes _ _ c.1 a.resolves) in
-    module_fails c.2.user c.2.slot walk c.0.«module» c.2.first (subst (λ n. IsAvailable n) (sym same) a.available)
+    module_fails c.2.user c.2.slot walk c.0.«module» c.2.first (subst (λ n. IsAvailable n) (sym same) a.formed.available)
 refused_for_good bytes (BigEndian line) c m a =
     let same : c.0.«module» ≡ m = ap (λ (r : Resolved). r.«module») (resolves_once bytes _ _ c.1 a.resolves) in
     let x : Some line ≡ None = sym c.3 ∙ ap (λ (n : Module). n.big_endian_line) same ∙ a.little_endian in cc
@@ -102,7 +106,13 @@ blamed bytes r AvailNoMemory fault resolves first e = subst (λ f. EndsBy bytes 
 
 pub ordered : (bytes : List ℕ) (r : Resolved) (answer : Result Module Fault) → Resolves bytes r → IsAvailable r.«module» → Orders r.«module» answer → AcceptsTo bytes answer
 ordered bytes r (Ok m) resolves fine o =
-    subst (λ n. Accepts bytes n) (sym o.0) (record { lines = r.lines; resolves = resolves; available = fine; little_endian = o.1 })
+    subst (λ n. Accepts bytes n) (sym o.0) (record {
+      reads = record { items = resolves.draft.items; says = draft_items bytes resolves.draft resolves.drafted; named = names_hold resolves.draft r resolves.resolved };
+      lines = r.lines;
+      resolves = resolves;
+      formed = formed bytes resolves.draft r resolves.drafted resolves.resolved fine;
+      little_endian = o.1;
+    })
 ordered bytes r (Err (Refused (BigEndian line))) resolves fine o = (r, resolves, fine, o)
 ordered bytes r (Err (Refused (Lex line byte))) resolves fine o = absurd o
 ordered bytes r (Err (Refused (NotALine line))) resolves fine o = absurd o
@@ -117,3 +127,11 @@ ordered bytes r (Err ReadFault) resolves fine o = absurd o
 ordered bytes r (Err WriteFault) resolves fine o = absurd o
 ordered bytes r (Err TooLong) resolves fine o = absurd o
 ordered bytes r (Err NoMemory) resolves fine o = absurd o
+
+-- a module that is accepted may be worked on
+pub ready : (bytes : List ℕ) (m : Module) → Accepts bytes m → IsReady m
+ready bytes m a = record {
+  formed = a.formed;
+  printable = (read_back bytes m a.reads a.little_endian).0;
+  numbered = numbered bytes a.resolves.draft (record { «module» = m; lines = a.lines }) a.resolves.drafted a.resolves.resolved;
+}

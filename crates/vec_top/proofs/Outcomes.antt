@@ -14,7 +14,7 @@ use Rattle.vec_top.specs.declared.cause.Cause.{Cause}
 use Rattle.vec_top.specs.declared.fault.Fault.{Fault}
 use Rattle.vec_top.specs.declared.fault.Fault.TheVariants.{Refused, Word, ReadFault, WriteFault, TooLong, NoMemory}
 use Rattle.vec_top.specs.Accepts.{Accepts, IsCause}
-use Rattle.vec_top.specs.Results.{result_of, KeepsMeaning}
+use Rattle.vec_top.specs.Results.{result_of, Promises}
 use Rattle.vec_top.specs.Replies.{Streams, Tells, IsTold, OnlyTells, ReadsAll, Done, IsRefused, Unheld, Misfit, ReadFailed, WriteFailed, PassesLimit, Starved, Replies, told}
 use Rattle.vec_top.specs.Making.{fault_for, Makes, Nothing, Something, MakesNothing, MakesHeld, MakesFor, ReadsTo, Gives, Misfits}
 use Rattle.vec_top.proofs.Accepting.{refused_for_good}
@@ -94,7 +94,7 @@ module _ (ws : List (List ℕ)) (l l' : Option (List ℕ)) (b n : ℕ) (o o' : O
   from_whole (Nothing h is nothing) appended quiet_out same_err same_faults = cc
   from_whole (Something (c, says, made)) appended quiet_out same_err same_faults = record {
     reads_all = everything c says made;
-    printed = if_some (Gives c text.items) (λ bytes. (m : Module) × (t : List ℕ) × Accepts bytes m × (result_of c m ≡ Ok t) × Appends o o' t × KeepsMeaning c m) l
+    printed = if_some (Gives c text.items) (λ bytes. (m : Module) × (t : List ℕ) × Accepts bytes m × (result_of c m ≡ Ok t) × Appends o o' t × Promises c m) l
         (λ bytes x. (x.0, text.items, x.1, x.2, appended, x.3)) made.holds;
     out_faults = quiet_out;
     err = subst (λ s. Keeps e s) (sym same_err) (keeps_same e);

@@ -13,6 +13,7 @@ use Rattle.ir_types.specs.declared.module.Item.{Item}
 use Rattle.ir_types.specs.declared.module.Item.TheVariants.{Func as FuncItem}
 use Rattle.ir_types.specs.declared.module.Module.{Module}
 use Rattle.ir_types.specs.Available.{same_id, IsAvailable, IsFirstMiss}
+use Rattle.ir_types.specs.Formed.{IsFormed}
 use Rattle.ir_line.specs.declared.draft.Draft.{Draft}
 use Rattle.ir_print.specs.Names.{names_of, local_of}
 use Rattle.ir_print.specs.Operands.{local_text}
@@ -23,6 +24,7 @@ use Rattle.ir_types_check.specs.declared.refusal.ResolveRefusal.{ResolveRefusal}
 use Rattle.ir_types_check.specs.declared.refusal.ResolveRefusal.TheVariants as unresolved
 use Rattle.ir_types_check.specs.declared.resolved.Resolved.{Resolved}
 use Rattle.ir_types_check.specs.Resolved.{resolved_of}
+use Rattle.rf_text.specs.Reads.{Reads}
 use Rattle.vec_top.specs.declared.cause.Cause.{Cause}
 use Rattle.vec_top.specs.declared.cause.Cause.TheVariants.{Lex, NotALine, Misplaced, Passes, TwiceDefined, Unknown, IllTyped, NotAvailable, BigEndian}
 
@@ -34,9 +36,13 @@ pub record Resolves (bytes : List ℕ) (r : Resolved) : Type 0 where
 
 -- the text is the module, and nothing is wrong with it
 pub record Accepts (bytes : List ℕ) (m : Module) : Type 0 where
+  -- it reads as the module
+  pub reads : Reads bytes m
+  -- it is within the limits, and well typed
   pub lines : List ℕ
   pub resolves : Resolves bytes (record { «module» = m; lines = lines })
-  pub available : IsAvailable m
+  -- the module is formed, each use being available along every walk, and its layout has the low byte first
+  pub formed : IsFormed m
   pub little_endian : m.big_endian_line ≡ None
 
 -- the text is a draft whose names or types do not resolve

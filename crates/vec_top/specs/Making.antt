@@ -5,6 +5,7 @@ use Rattle.std.specs.Io.KnownBytes.{Keeps, IsAtEnd}
 use Rattle.std.specs.declared.alloc.Global.{Global}
 use Rattle.vx_io.specs.Count.{Rose}
 use Rattle.ir_types.specs.declared.module.Module.{Module}
+use Rattle.ir_types.specs.Formed.{IsFormed}
 use Rattle.ir_line.specs.declared.draft.Draft.{Draft}
 use Rattle.ir_read.specs.Draft.{draft_of}
 use Rattle.ir_types_check.specs.declared.resolved.Resolved.{Resolved}
@@ -18,10 +19,11 @@ use Rattle.vec_words.specs.Starts.{start_of}
 use Rattle.ir_avail.specs.declared.refusal.AvailRefusal.{AvailRefusal}
 use Rattle.ir_avail.specs.declared.refusal.AvailRefusal.TheVariants.{NotAvailable as Miss, OutOfMemory as AvailNoMemory}
 use Rattle.vec_top.specs.declared.cause.Cause.TheVariants.{NotAvailable, BigEndian}
+use Rattle.rf_text.specs.Printable.{IsPrintable, IsNumbered}
 use Rattle.vec_top.specs.declared.fault.Fault.{Fault}
 use Rattle.vec_top.specs.declared.fault.Fault.TheVariants.{Refused, Word, ReadFault, WriteFault, TooLong, NoMemory}
 use Rattle.vec_top.specs.Accepts.{Resolves, Accepts, IsCause, line_of, operand_in}
-use Rattle.vec_top.specs.Results.{result_of, KeepsMeaning}
+use Rattle.vec_top.specs.Results.{result_of, Promises}
 use Rattle.vec_top.specs.Replies.{byte_limit}
 
 -- only a cause against the text ends a step, or want of memory
@@ -64,16 +66,22 @@ Starts m words (Err (Word place)) = (k : ℕ) × (place ≡ k + 3) × (start_of 
 Starts m words (Err NoMemory) = Unit {0}
 Starts m words (Err _) = ⊥
 
+-- what a command may be asked for: a module that was read, is formed and has the low byte first
+pub record IsReady (m : Module) : Type 0 where
+  pub formed : IsFormed m
+  pub printable : IsPrintable m
+  pub numbered : IsNumbered m
+
 -- what a command makes of a module, or the word that does not fit it
 abbrev pub ResultFor : Command → Module → Result (Vec ℕ Global) Fault → Type 0
-ResultFor c m (Ok text) = (result_of c m ≡ Ok text.items) × KeepsMeaning c m
+ResultFor c m (Ok text) = (result_of c m ≡ Ok text.items) × Promises c m
 ResultFor c m (Err (Word place)) = result_of c m ≡ Err place
 ResultFor c m (Err NoMemory) = Unit {0}
 ResultFor c m (Err _) = ⊥
 
 -- the text is what the command makes of the module that the bytes are
 abbrev pub Gives : Command → List ℕ → List ℕ → Type 0
-Gives c text bytes = (m : Module) × Accepts bytes m × (result_of c m ≡ Ok text) × KeepsMeaning c m
+Gives c text bytes = (m : Module) × Accepts bytes m × (result_of c m ≡ Ok text) × Promises c m
 
 -- a word does not fit the module that the bytes are
 abbrev pub Misfits : Command → ℕ → List ℕ → Type 0

@@ -14,7 +14,7 @@ use Rattle.vec_top.specs.declared.cause.Cause.TheVariants.{Lex, NotALine, Mispla
 use Rattle.vec_top.specs.declared.fault.Fault.{Fault}
 use Rattle.vec_top.specs.declared.fault.Fault.TheVariants.{Refused, Word, ReadFault, WriteFault, TooLong, NoMemory}
 use Rattle.vec_top.specs.Accepts.{Accepts, IsCause}
-use Rattle.vec_top.specs.Results.{result_of, KeepsMeaning}
+use Rattle.vec_top.specs.Results.{result_of, Promises}
 
 -- faults
 
@@ -122,7 +122,7 @@ pub record Done (words : List (List ℕ)) (s : Streams) : Type 0 where
   pub reads_all : ReadsAll words s
   pub printed : IfSome s.left (λ bytes.
       (m : Module) × (text : List ℕ) × Accepts bytes m × (result_of reads_all.command m ≡ Ok text) × Appends s.out s.out_after text
-      × KeepsMeaning reads_all.command m)
+      × Promises reads_all.command m)
   pub out_faults : s.out_faults_after ≡ s.out_faults
   pub err : Keeps s.err s.err_after
   pub err_faults : s.err_faults_after ≡ s.err_faults

@@ -8,6 +8,7 @@ use Rattle.ir_print.specs.Text.{text_of}
 use Rattle.ir_model.specs.Refines.{ModuleRefines}
 use Rattle.ir_model.specs.Run.{functions_of, run_of}
 use Rattle.vx_serial.specs.Pair.{pair_of}
+use Rattle.rf_text.specs.Again.{IsReadAgain}
 use Rattle.vec_words.specs.declared.commands.Command.{Command}
 use Rattle.vec_words.specs.declared.commands.Command.TheVariants.{Print, Opt, Run}
 use Rattle.vec_words.specs.declared.starts.Start.{Start}
@@ -33,7 +34,9 @@ result_of Print m = Ok (text_of m)
 result_of Opt m = Ok (text_of (pair_of m))
 result_of (Run steps words) m = outcome_from m steps (start_of m words)
 
--- what `opt` makes of a module may stand for it, for every function, all fitting arguments and memories and every bound
-abbrev pub KeepsMeaning : Command → Module → Type 0
-KeepsMeaning Opt m = ModuleRefines (pair_of m) m
-KeepsMeaning _ m = Unit {0}
+-- what a command promises of what it writes: what `print` writes is read again as the module, with its ids given anew; what `opt` makes
+-- of a module may stand for it, for every function, all fitting arguments and memories and every bound
+abbrev pub Promises : Command → Module → Type 0
+Promises Print m = IsReadAgain m
+Promises Opt m = ModuleRefines (pair_of m) m
+Promises (Run steps words) m = Unit {0}

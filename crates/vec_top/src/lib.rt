@@ -6,6 +6,7 @@
 
 mod accept;
 mod cause;
+mod counts;
 mod fault;
 mod results;
 mod top;

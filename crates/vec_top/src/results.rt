@@ -7,6 +7,7 @@ ghost use Rattle.vec_words.specs.declared.commands.Command.TheVariants.{Opt, Run
 ghost use Rattle.vec_top.specs.Making as making;
 ghost use Rattle.vec_top.specs.Results as results;
 
+use crate::counts::are_counted;
 use crate::fault::Fault;
 use ir_interp::run;
 use ir_print::print;
@@ -19,10 +20,14 @@ use vx_serial::pair;
 /// How many words stand before the call word of `run`.
 const WORDS_BEFORE_CALL: u32 = 3;
 
-/// The module's text.
+/// The module's text, which is read again as the module.
 fn printed(alloc: Global, m: &Module) -> Result<Vec<u8>, Fault>
+    requires { making.IsReady m.now }
     ensures { making.ResultFor Command.Print m.now result }
 {
+    if !are_counted(m) {
+        return Err(Fault::NoMemory);
+    }
     match print(alloc, m) {
         Ok(text) => Ok(text),
         Err(_) => Err(Fault::NoMemory),
@@ -93,6 +98,7 @@ fn ran(alloc: Global, m: &Module, steps: u64, words: &Names) -> Result<Vec<u8>, 
 
 /// The text that a command makes of a module.
 pub(crate) fn text_of(alloc: Global, command: &Command, m: &Module) -> Result<Vec<u8>, Fault>
+    requires { making.IsReady m.now }
     ensures { making.ResultFor command.now m.now result }
 {
     match command {
