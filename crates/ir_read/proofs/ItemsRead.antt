@@ -2,7 +2,6 @@
 use Rattle.std.proofs.Common.{◌≡◌, ℕ, ◌+◌, List, [], ◌∷◌, Option, Some, None, Result, Ok, Err, refl, sym, ◌∙◌, ap, subst, map}
 use Rattle.ir_line.specs.declared.line.Line.{Line}
 use Rattle.ir_line.specs.declared.draft.Draft.{Draft}
-use Rattle.ir_line.specs.declared.draft.DraftItem.{DraftItem}
 use Rattle.ir_read.specs.declared.open_function.OpenFunction.{OpenFunction}
 use Rattle.ir_read.specs.declared.outlook.Outlook.{Outlook}
 use Rattle.ir_read.specs.declared.progress.Done.{Done}
@@ -15,8 +14,8 @@ use Rattle.ir_read.specs.Faults.{first_fault, unless}
 use Rattle.ir_read.specs.Forms.{forms_of}
 use Rattle.ir_read.specs.Limits.{passed}
 use Rattle.ir_read.specs.Outlook.{outlook_of}
-use Rattle.ir_read.specs.Draft.{nothing_done, between, step, within, ended, read_from, draft_in, draft_of}
-use Rattle.ir_read.specs.Items.{closed_items, items_from, items_of, IsItems}
+use Rattle.ir_read.specs.Draft.{nothing_done, between, step, within, ended, read_from, draft_of}
+use Rattle.ir_read.specs.Items.{closed_items, items_from, IsItems}
 
 refused : {A P : Type 0} {e : ReadRefusal} {a : A} → Err e ≡ Ok a → P
 refused e = cc

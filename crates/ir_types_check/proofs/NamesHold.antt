@@ -1,10 +1,6 @@
 -- A draft that resolves has names that stand for the module.
-use Rattle.std.proofs.Common.{◌≡◌, List, [], Result, Ok, Err, refl, sym, ◌∙◌, ap, subst}
-use Rattle.ir_types.specs.declared.module.Module.{Module}
+use Rattle.std.proofs.Common.{◌≡◌, [], Result, Ok, Err, refl, ap}
 use Rattle.ir_line.specs.declared.draft.Draft.{Draft}
-use Rattle.ir_line.specs.declared.draft.DraftItem.{DraftItem}
-use Rattle.ir_types_check.specs.declared.tops.Tops.{Tops}
-use Rattle.ir_types_check.specs.declared.building.Done.{Done}
 use Rattle.ir_types_check.specs.declared.resolved.Resolved.{Resolved}
 use Rattle.ir_types_check.specs.declared.refusal.ResolveRefusal.{ResolveRefusal}
 use Rattle.ir_types_check.specs.Answers.{◌>>=◌}

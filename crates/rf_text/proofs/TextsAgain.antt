@@ -1,5 +1,5 @@
 -- The text of a module is lines, their forms are the items of a draft, and these have the names of the module.
-use Rattle.std.proofs.Common.{◌≡◌, Result, Ok, List, Some, None, sym, ◌∙◌, ap, subst, map}
+use Rattle.std.proofs.Common.{◌≡◌, sym, ◌∙◌, ap, subst}
 use Rattle.ir_types.specs.declared.module.Module.{Module}
 use Rattle.ir_types.specs.Formed.{IsFormed}
 use Rattle.ir_print.specs.Text.{text_of}

@@ -1,6 +1,5 @@
 -- What is printed is read again: the text of a module that was read, is formed and has the low byte first reads as that module with
 -- its ids given anew, and that is formed.
-use Rattle.std.specs.Prelude.{ℕ, List}
 use Rattle.ir_types.specs.declared.module.Module.{Module}
 use Rattle.ir_types.specs.Formed.{IsFormed}
 use Rattle.ir_print.specs.Text.{text_of}

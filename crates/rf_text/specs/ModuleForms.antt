@@ -2,7 +2,7 @@
 --
 -- A line feed between two blocks, or between a function and the item next to it, is an empty line; an empty line is counted and
 -- dropped.
-use Rattle.std.specs.Prelude.{◌≡◌, ℕ, suc, ◌+◌, Bool, true, false, Option, None, Some, List, [], ◌∷◌, ◌++◌, length, slice_get}
+use Rattle.std.specs.Prelude.{ℕ, ◌+◌, Bool, false, Option, None, Some, List, [], ◌∷◌, ◌++◌, length, slice_get}
 use Rattle.ir_lex.specs.Scan.{texts}
 use Rattle.ir_types.specs.declared.inst.Inst.{Inst}
 use Rattle.ir_types.specs.declared.func.Block.{Block}

@@ -1,6 +1,6 @@
 -- Modules whose names and kept parts are such as text can have. Every module that was read is one, as long as its layout has the low
 -- byte first; and the text of one that is formed reads as the same module.
-use Rattle.std.specs.Prelude.{◌≡◌, ℕ, zero, suc, ◌+◌, ◌^◌, ◌<◌, Bool, true, false, not, ◌&&◌, cond, Option, None, Some, List, [], ◌∷◌, ◌++◌, length, map}
+use Rattle.std.specs.Prelude.{◌≡◌, ℕ, zero, suc, ◌+◌, ◌^◌, ◌<◌, Bool, true, false, not, ◌&&◌, Option, None, Some, List, [], ◌∷◌, length}
 use Rattle.std.specs.List.{All, AllPairs}
 use Rattle.ir_lex.specs.Tokens.{is_name}
 use Rattle.ir_types.specs.declared.id.Id.{Id}
@@ -14,9 +14,7 @@ use Rattle.ir_types.specs.declared.module.Item.{Item}
 use Rattle.ir_types.specs.declared.module.Item.TheVariants.{Kept, Opaque, Func as FuncItem}
 use Rattle.ir_types.specs.declared.module.Module.{Module}
 use Rattle.ir_types.specs.Formed.{ids_of}
-use Rattle.ir_line.specs.declared.kept.Kept.{Kept as KeptLine}
 use Rattle.ir_line.specs.declared.line.Line.TheVariants as line
-use Rattle.ir_line.specs.Keeping.{is_some}
 use Rattle.ir_print.specs.Names.{Named, Value, Label, named_of, is_store, is_void}
 use Rattle.ir_read.specs.Forms.{form_in}
 use Rattle.ir_read.specs.Outlook.{has}

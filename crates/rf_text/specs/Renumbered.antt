@@ -1,6 +1,6 @@
 -- A module with its ids given anew in order of the text: 0, 1 and so on over parameters and instructions, all of region 0. That is how
 -- the ids are of a module that is read from its text.
-use Rattle.std.specs.Prelude.{◌≡◌, refl, ℕ, ◌+◌, cond, None, List, [], ◌∷◌, map}
+use Rattle.std.specs.Prelude.{◌≡◌, refl, ℕ, ◌+◌, cond, List, [], ◌∷◌, map}
 use Rattle.ir_types.specs.declared.id.Id.{Id}
 use Rattle.ir_types.specs.declared.opd.Opd.{Opd}
 use Rattle.ir_types.specs.declared.opd.Opd.TheVariants.{Val}

@@ -1,6 +1,5 @@
 -- One text is one module or has one first cause against it; and the steps by which a text is accepted.
-use Rattle.std.proofs.Common.{◌≡◌, ℕ, List, Some, None, Option, Result, Ok, Err, ◌⊎◌, inl, inr, refl, sym, ◌∙◌, ap, subst, true, false}
-use Rattle.std.specs.Prelude.{unwrap_or}
+use Rattle.std.proofs.Common.{◌≡◌, ℕ, List, Some, None, Result, Ok, Err, inl, inr, refl, sym, ◌∙◌, ap, subst, true, false}
 use Rattle.ir_types.specs.declared.id.Id.{Id}
 use Rattle.ir_types.specs.declared.opd.Opd.{Opd}
 use Rattle.ir_types.specs.declared.opd.Opd.TheVariants.{Val, Lit, Sym}
@@ -10,7 +9,7 @@ use Rattle.ir_types.specs.declared.func.Func.{Func}
 use Rattle.ir_types.specs.declared.module.Item.{Item}
 use Rattle.ir_types.specs.declared.module.Item.TheVariants.{Kept, Opaque, Func as FuncItem}
 use Rattle.ir_types.specs.declared.module.Module.{Module}
-use Rattle.ir_types.specs.Available.{IsAvailable, IsFirstMiss, InstMisses, BlockMisses, FuncMisses, ItemMisses, OpdMisses, IsAvailableOpd, IsAvailableInst, IsAvailableBlock, IsAvailableFunc, IsAvailableItem, First, Each, before_use, insts_at}
+use Rattle.ir_types.specs.Available.{IsAvailable, IsFirstMiss, InstMisses, BlockMisses, FuncMisses, ItemMisses, OpdMisses, IsAvailableOpd, IsAvailableInst, IsAvailableBlock, IsAvailableFunc, IsAvailableItem, First, Each}
 use Rattle.ir_line.specs.declared.draft.Draft.{Draft}
 use Rattle.ir_read.specs.Draft.{draft_of}
 use Rattle.ir_read.specs.declared.refusal.ReadRefusal.{ReadRefusal}
@@ -28,7 +27,7 @@ use Rattle.vec_top.specs.declared.cause.Cause.{Cause}
 use Rattle.vec_top.specs.declared.cause.Cause.TheVariants.{Lex, NotALine, Misplaced, Passes, TwiceDefined, Unknown, IllTyped, NotAvailable, BigEndian}
 use Rattle.vec_top.specs.declared.fault.Fault.{Fault}
 use Rattle.vec_top.specs.declared.fault.Fault.TheVariants.{Refused, Word, ReadFault, WriteFault, TooLong, NoMemory}
-use Rattle.vec_top.specs.Accepts.{Resolves, Accepts, IsUnresolved, IsMissed, IsCause}
+use Rattle.vec_top.specs.Accepts.{Resolves, Accepts, IsUnresolved, IsCause}
 use Rattle.vec_top.specs.Making.{EndsBy, Blames, Orders, AcceptsTo, IsReady}
 
 -- the first use that is not available is not available

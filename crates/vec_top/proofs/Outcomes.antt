@@ -1,7 +1,7 @@
 -- From what the words and the input come to, and what was written, to the reply.
-use Rattle.std.proofs.Common.{◌≡◌, ℕ, ◌<◌, ◌≤◌, List, ◌∷◌, ◌++◌, Some, None, Option, Result, Ok, Err, ◌⊎◌, inl, inr, refl, sym, ap, subst, length, arith, Vec, Global, true, false}
+use Rattle.std.proofs.Common.{◌≡◌, ℕ, ◌<◌, ◌≤◌, List, Some, None, Option, Ok, Err, inl, inr, refl, sym, ap, subst, length, arith, Vec, Global, true, false}
 use Rattle.std.specs.Prelude.{IfSome}
-use Rattle.std.specs.Io.KnownBytes.{Appends, Keeps, IsAtEnd}
+use Rattle.std.specs.Io.KnownBytes.{Appends, Keeps}
 use Rattle.vx_io.specs.Bytes.{AppendsFront}
 use Rattle.vx_io.specs.Count.{Rose}
 use Rattle.ir_types.specs.declared.module.Module.{Module}
@@ -15,8 +15,8 @@ use Rattle.vec_top.specs.declared.fault.Fault.{Fault}
 use Rattle.vec_top.specs.declared.fault.Fault.TheVariants.{Refused, Word, ReadFault, WriteFault, TooLong, NoMemory}
 use Rattle.vec_top.specs.Accepts.{Accepts, IsCause}
 use Rattle.vec_top.specs.Results.{result_of, Promises}
-use Rattle.vec_top.specs.Replies.{Streams, Tells, IsTold, OnlyTells, ReadsAll, Done, IsRefused, Unheld, Misfit, ReadFailed, WriteFailed, PassesLimit, Starved, Replies, told}
-use Rattle.vec_top.specs.Making.{fault_for, Makes, Nothing, Something, MakesNothing, MakesHeld, MakesFor, ReadsTo, Gives, Misfits}
+use Rattle.vec_top.specs.Replies.{Streams, Tells, IsTold, OnlyTells, ReadsAll, Done, WriteFailed, Replies, told}
+use Rattle.vec_top.specs.Making.{fault_for, Makes, Nothing, Something, MakesNothing, MakesFor, ReadsTo, Gives, Misfits}
 use Rattle.vec_top.proofs.Accepting.{refused_for_good}
 
 keeps_same : (o : Option (List ℕ)) → Keeps o o

@@ -1,8 +1,7 @@
 -- Which texts are modules that the program accepts, and the first cause against each other text, in the order of the checks: a lexical
 -- fault; a line that is none of the profile or is misplaced; a limit; a name that is defined twice; an unknown name; a line that is ill
 -- typed; a use that is not available along some walk; a big-endian layout.
-use Rattle.std.specs.Prelude.{◌≡◌, ℕ, Option, None, Some, Result, Ok, Err, List, [], ◌∷◌, ◌++◌, codes, slice_get, unwrap_or, cond}
-use Rattle.std.specs.Fmt.{decimal}
+use Rattle.std.specs.Prelude.{◌≡◌, ℕ, Option, None, Some, Ok, Err, List, [], ◌∷◌, slice_get, unwrap_or, cond}
 use Rattle.ir_types.specs.declared.id.Id.{Id}
 use Rattle.ir_types.specs.declared.opd.Opd.{Opd}
 use Rattle.ir_types.specs.declared.opd.Opd.TheVariants.{Val}
@@ -17,7 +16,6 @@ use Rattle.ir_types.specs.Formed.{IsFormed}
 use Rattle.ir_line.specs.declared.draft.Draft.{Draft}
 use Rattle.ir_print.specs.Names.{names_of, local_of}
 use Rattle.ir_print.specs.Operands.{local_text}
-use Rattle.ir_read.specs.declared.refusal.Limit.{Limit}
 use Rattle.ir_read.specs.declared.refusal.ReadRefusal.TheVariants as unread
 use Rattle.ir_read.specs.Draft.{draft_of}
 use Rattle.ir_types_check.specs.declared.refusal.ResolveRefusal.{ResolveRefusal}

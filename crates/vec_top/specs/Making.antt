@@ -9,7 +9,6 @@ use Rattle.ir_types.specs.Formed.{IsFormed}
 use Rattle.ir_line.specs.declared.draft.Draft.{Draft}
 use Rattle.ir_read.specs.Draft.{draft_of}
 use Rattle.ir_types_check.specs.declared.resolved.Resolved.{Resolved}
-use Rattle.ir_types_check.specs.Resolved.{resolved_of}
 use Rattle.vec_words.specs.declared.commands.Command.{Command}
 use Rattle.vec_words.specs.Commands.{command_of}
 use Rattle.vec_words.specs.declared.refusal.WordsRefusal.{WordsRefusal}

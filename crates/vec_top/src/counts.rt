@@ -13,7 +13,9 @@ fn with_blocks(start: u64, blocks: &[Block]) -> u64
 {
     let mut count = start;
     for block in blocks {
-        count = count.saturating_add(1).saturating_add(block.insts.len() as u64);
+        count = count
+            .saturating_add(1)
+            .saturating_add(block.insts.len() as u64);
     }
     count
 }

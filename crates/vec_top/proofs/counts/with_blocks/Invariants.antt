@@ -1,5 +1,5 @@
 -- What is counted, with the blocks that are left, is the whole.
-use Rattle.std.proofs.Common.{◌≡◌, ◌+◌, ◌-◌, ◌^◌, ◌≤◌, drop}
+use Rattle.std.proofs.Common.{◌≡◌, ◌+◌, ◌≤◌, drop}
 use Rattle.std.specs.Prelude.{min}
 use Rattle.vec_top.specs.Counts.{blocks_size}
 use Rattle.vec_top.proofs.counts.with_blocks.Given as goal
