@@ -425,10 +425,9 @@ fn large(alloc: Global, number: u8, adds: usize, blocks: usize) -> Result<Vec<u8
     text.extend_from_slice(b"define void @f")?;
     text.push(b'0' + number % 10)?;
     text.extend_from_slice(b"() {\n")?;
-    let mut number: u64 = 1;
-    for _ in 0..adds {
+    for before in 0..adds {
+        let number = before + 1;
         text.extend_from_slice(format!(in alloc; "%{number} = add i32 0, 0\n")?.as_bytes())?;
-        number += 1;
     }
     for _ in 0..blocks {
         text.extend_from_slice(b"ret void\n")?;
