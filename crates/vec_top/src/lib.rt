@@ -14,4 +14,6 @@ mod top;
 pub use top::sandvec_alone;
 
 #[cfg(test)]
+mod spelled;
+#[cfg(test)]
 mod tests;

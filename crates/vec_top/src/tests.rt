@@ -1,6 +1,6 @@
 //! Tests of what no clause says: that the call can succeed, its texts on worked rows, and faults in mid-stream.
 
-use crate::sandvec_alone;
+use crate::{sandvec_alone, spelled};
 use std::alloc::Global;
 use std::process::Abort;
 use std::test::Fail;
@@ -105,6 +105,20 @@ fn modules_are_printed(rt: HostRuntime) -> Result<(), Fail> {
             input: COMPILED_PRINTED,
             status: 0,
             out: COMPILED_PRINTED,
+            err: b"",
+        },
+        Row {
+            words: &["print"],
+            input: spelled::SPELLED,
+            status: 0,
+            out: spelled::PRINTED,
+            err: b"",
+        },
+        Row {
+            words: &["print"],
+            input: spelled::PRINTED,
+            status: 0,
+            out: spelled::PRINTED,
             err: b"",
         },
         Row {
