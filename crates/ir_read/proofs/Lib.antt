@@ -1,5 +1,6 @@
 -- Lemmas that nobody need believe.
 pub mod Answering
+pub mod InsideLines
 pub mod ItemsRead
 pub mod LineForms
 pub mod Named

@@ -4,11 +4,13 @@
 
 ghost use Rattle.std.specs.Prelude.{◌≡◌, ◌+◌, ◌<◌, ◌^◌, length, IfOk};
 ghost use Rattle.ir_lex.specs.Tokens.{Lexed};
+ghost use Rattle.ir_lex.specs.Words.{words};
+ghost use Rattle.ir_line.specs.Body as body;
 ghost use Rattle.ir_line.specs.Body.{read_body};
 ghost use Rattle.ir_line.specs.Outside.{read_outside};
 ghost use Rattle.ir_read.specs.Forms as forms;
 
-use ir_lex::{LexRefusal, Tokens, tokens};
+use ir_lex::{LexRefusal, Tokens, text, tokens};
 use ir_line::{Line, LineRefusal, body_line, module_line};
 use std::alloc::{AllocError, Global};
 
@@ -79,6 +81,16 @@ pub(crate) fn form_in(
         Ok(t) => form_by(alloc, inside, line, &t, number),
         Err(LexRefusal::Lex { .. }) => Ok(None),
         Err(LexRefusal::OutOfMemory) => Err(AllocError),
+    }
+}
+
+/// Whether a line with these tokens is a brace alone.
+pub(crate) fn is_brace(line: &[u8], t: &Tokens) -> bool
+    ensures { result ≡ body.is_brace (words line.now t.now) }
+{
+    match t.as_slice() {
+        [token] => text(line, *token) == b"}".as_slice(),
+        _ => false,
     }
 }
 

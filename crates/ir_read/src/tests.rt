@@ -338,7 +338,7 @@ fn limits_are_kept(rt: HostRuntime) -> Result<(), Fail> {
     limit_holds(&rt, rt.alloc(), (1, 4_097, 2), Some(Limit::Blocks))?;
     // the first in order, though it is passed last
     limit_holds(&rt, rt.alloc(), (11, 4_097, 16), Some(Limit::Instructions))?;
-    limit_holds(&rt, rt.alloc(), (101, 10, 100), Some(Limit::Instructions))?;
+    limit_holds(&rt, rt.alloc(), (11, 1, 9_091), Some(Limit::Instructions))?;
     limit_holds(&rt, rt.alloc(), (1, 8_192, 8), Some(Limit::Values))?;
     Ok(())
 }

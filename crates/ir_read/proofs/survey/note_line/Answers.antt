@@ -1,6 +1,6 @@
--- What is known behind the line goes by its form.
-use Rattle.ir_read.proofs.LineForms.{seen_line}
+-- A line inside a function leaves what is known as it was.
+use Rattle.ir_read.proofs.InsideLines.{seen_inside}
 use Rattle.ir_read.proofs.survey.note_line.Goals as goal
 
-pub returns : goal.returns
-returns c = seen_line _ _ _ _ _ _ _ c.in_ok-form.ensures c.in_ok-note.ensures c.inside_after.ensures
+pub returns-then-inside : goal.returns-then-inside
+returns-then-inside c = rw c.if-inside.true (seen_inside _ _ _ _ c.note_inside.ensures)
