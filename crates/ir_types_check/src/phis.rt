@@ -2,13 +2,14 @@
 //!
 //! `phi_fits` is the entry point; want of memory is the only failure.
 
-ghost use Rattle.std.specs.Prelude.{◌≡◌, [], IfOk, OnOk};
+ghost use Rattle.std.specs.Prelude.{◌≡◌, true, List, [], IsTrue, IfOk, OnOk};
+ghost use Rattle.ir_line.specs.declared.written.Arg.{Arg};
 ghost use Rattle.ir_types_check.specs.Scope.{meaning};
 ghost use Rattle.ir_types_check.specs.Typed as typed;
 
 use crate::edges::{Sources, numbers_at};
 use crate::locals::Meaning;
-use crate::scope::Scope;
+use crate::scope::{Scope, copied};
 use crate::types::same_ty;
 use ir_line::{Arg, Stmt, Written};
 use ir_types::{Bytes, Literal};
@@ -81,8 +82,8 @@ fn copy_of(alloc: Global, written: &Written) -> Result<Written, AllocError>
     ensures { IfOk result (λ copy. copy ≡ written.now) }
 {
     match written {
-        Written::Local(name) => Ok(Written::Local(name.try_clone(alloc)?)),
-        Written::Symbol(name) => Ok(Written::Symbol(name.try_clone(alloc)?)),
+        Written::Local(name) => Ok(Written::Local(copied(alloc, name.as_slice())?)),
+        Written::Symbol(name) => Ok(Written::Symbol(copied(alloc, name.as_slice())?)),
         Written::Lit(literal) => Ok(Written::Lit(literal.try_clone(alloc)?)),
     }
 }
@@ -107,10 +108,28 @@ fn brings(
     }
 }
 
+/// Whether these are at most two labels, and none stands twice: then none brings two operands.
+#[tactic(auto, using(crate::proofs::Apart::one_agrees, crate::proofs::Apart::two_agree))]
+fn are_apart(labels: &[Bytes]) -> bool
+    ensures { IsTrue result → (args : List Arg) → typed.agree [] labels.now args ≡ true }
+{
+    let [one, others @ ..] = labels else {
+        return true;
+    };
+    let [other, more @ ..] = others else {
+        return true;
+    };
+    more.is_empty() && other.as_slice() != one.as_slice()
+}
+
 /// Whether each label brings one operand.
 fn agree(alloc: Global, labels: &[Bytes], args: &[Arg]) -> Result<bool, AllocError>
     ensures { IfOk result (λ fits. fits ≡ typed.agree [] labels.now args.now) }
 {
+    // Most blocks with a phi have two predecessors, and then nothing need be kept.
+    if are_apart(labels) {
+        return Ok(true);
+    }
     let mut brought = Scope::new(alloc);
     let mut labels = labels;
     let mut args = args;
