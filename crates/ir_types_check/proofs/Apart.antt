@@ -1,7 +1,6 @@
 -- Labels of which none stands twice.
-use Rattle.std.proofs.Common.{◌≡◌, ℕ, Bool, true, false, ◌&&◌, cond, List, [], ◌∷◌, Some, None, refl, ap}
+use Rattle.std.proofs.Common.{◌≡◌, ℕ, true, false, ◌&&◌, cond, List, [], ◌∷◌, Some, None, refl, ap}
 use Rattle.std.specs.Str.{bytes_eq}
-use Rattle.ir_line.specs.declared.written.Written.{Written}
 use Rattle.ir_line.specs.declared.written.Arg.{Arg}
 use Rattle.ir_types_check.specs.Typed.{agree, is_brought}
 

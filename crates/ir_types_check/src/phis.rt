@@ -28,6 +28,16 @@ fn same_blocks(alloc: Global, left: &[u32], right: &[u32]) -> Result<bool, Alloc
     Ok(left.as_slice() == right.as_slice())
 }
 
+/// The same, where mostly both stand in one order and nothing need be sorted.
+fn are_same(alloc: Global, left: &[u32], right: &[u32]) -> Result<bool, AllocError>
+    ensures { IfOk result (λ same. same ≡ typed.same_blocks left.now right.now) }
+{
+    if left == right {
+        return Ok(true);
+    }
+    same_blocks(alloc, left, right)
+}
+
 /// Whether two lanes are one.
 fn same_lane(left: Lane, right: Lane) -> bool
     ensures { result ≡ typed.same_lane left right }
@@ -171,7 +181,7 @@ pub(crate) fn phi_fits(
         return Ok(false);
     }
     let incoming = numbers_at(alloc, locals, &stmt.labels, places)?;
-    if !same_blocks(alloc, incoming.as_slice(), sources_at(sources, here))? {
+    if !are_same(alloc, incoming.as_slice(), sources_at(sources, here))? {
         return Ok(false);
     }
     agree(alloc, stmt.labels.as_slice(), stmt.args.as_slice())
