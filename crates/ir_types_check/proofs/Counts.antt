@@ -125,3 +125,6 @@ sorted_same xs ys us vs r p q up vp d =
     decided r (same_blocks xs ys)
     (λ said. from_counts xs ys (λ b. sym (permuted b xs us p) ∙ ap (count b) (d.0 said) ∙ permuted b ys vs q))
     (λ said. d.1 (sorted_equal us vs up vp (λ b. permuted b xs us p ∙ counts_equal xs ys said b ∙ sym (permuted b ys vs q))))
+
+pub same_as_itself : (xs : List ℕ) → same_blocks xs xs ≡ true
+same_as_itself xs = from_counts xs xs (λ b. refl)

@@ -1,4 +1,5 @@
 -- Lemmas that nobody need believe.
+pub mod Apart
 pub mod Binding
 pub mod BodyBlocks
 pub mod BodyCases

@@ -6,6 +6,7 @@ pub mod Links
 pub mod Locals
 pub mod Named
 pub mod Outline
+pub mod OwnNames
 pub mod Resolved
 pub mod Scope
 pub mod Tops

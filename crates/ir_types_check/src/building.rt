@@ -2,21 +2,24 @@
 //!
 //! The entry point is `resolved_items`. It fails at the first name that is unknown, or for want of memory.
 
-ghost use Rattle.std.specs.Prelude.{◌≡◌, ◌++◌, ◌∷◌, [], None, IfOk, OnOk, length};
+ghost use Rattle.std.specs.Prelude.{◌≡◌, ◌++◌, ◌∷◌, [], None, Ok, IfOk, OnOk, length};
+ghost use Rattle.ir_types.specs.declared.module.Item.TheVariants as item;
 ghost use Rattle.ir_types_check.specs.Answers.{Gives};
 ghost use Rattle.ir_types_check.specs.Blocks as build;
+ghost use Rattle.ir_types_check.specs.Locals.{locals_of};
+ghost use Rattle.ir_types_check.specs.OwnNames.{AreOwnNames};
 ghost use Rattle.ir_types_check.specs.Resolved as resolved;
 
 use crate::ResolveRefusal;
 use crate::links::{cases_of, link, op_of};
-use crate::locals::{Meaning, locals_of};
+use crate::locals::{Locals, Meaning};
+use crate::module_names::ModuleNames;
 use crate::outline::{count_of, is_terminator, one_more, written, written_name};
-use crate::scope::Scope;
+use crate::scope::{Scope, copied};
 use crate::tops::Top;
 use ir_line::{DraftItem, Head, Line, Numbered, Stmt};
 use ir_types::{Block, Blocks, Bytes, Func, Id, Inst, Insts, Item, Items, Numbers, Param, Params};
 use std::alloc::{AllocError, Global};
-use vx_list::TryClone;
 
 /// The blocks of a function so far.
 #[derive(Drop)]
@@ -235,7 +238,7 @@ fn param_of(alloc: Global, k: u32, param: &Param) -> Result<Param, AllocError>
         id: id_of(k),
         name: written(alloc, &param.name)?,
         ty: param.ty,
-        attrs: param.attrs.try_clone(alloc)?,
+        attrs: copied(alloc, param.attrs.as_slice())?,
         noalias: param.noalias,
     })
 }
@@ -272,10 +275,10 @@ fn add_param_lines(lines: &mut Numbers, line: u32, params: &[Param]) -> Result<(
 fn func_of(alloc: Global, base: u32, head: &Head, blocks: Blocks) -> Result<Func, AllocError>
     ensures { IfOk result (λ func. func ≡ build.func_of base head.now blocks) }
 {
-    let before = head.before.try_clone(alloc)?;
-    let name = head.name.try_clone(alloc)?;
+    let before = copied(alloc, head.before.as_slice())?;
+    let name = copied(alloc, head.name.as_slice())?;
     let params = params_from(alloc, base, head.params.as_slice())?;
-    let after = head.after.try_clone(alloc)?;
+    let after = copied(alloc, head.after.as_slice())?;
     Ok(Func {
         before,
         ret: head.ret,
@@ -312,7 +315,7 @@ fn built_of(
 }
 
 impl Done {
-    /// With a kept line or an opaque function.
+    /// With an item that is kept as it is.
     #[tactic(auto, unfolding(crate::specs::Resolved::with_kept))]
     fn with_kept(self, item: Item) -> Result<Done, AllocError>
         ensures { IfOk result (λ after. after ≡ resolved.with_kept self item) }
@@ -322,22 +325,39 @@ impl Done {
         Ok(Done { items, lines })
     }
 
-    /// With a function.
+    /// With a kept line of this text.
+    fn with_line(self, alloc: Global, text: &Bytes) -> Result<Done, AllocError>
+        ensures { IfOk result (λ after. after ≡ resolved.with_kept self (item.Kept text.now)) }
+    {
+        let text = copied(alloc, text.as_slice())?;
+        self.with_kept(Item::Kept(text))
+    }
+
+    /// With an opaque function of this text.
+    fn with_opaque(self, alloc: Global, text: &Bytes) -> Result<Done, AllocError>
+        ensures { IfOk result (λ after. after ≡ resolved.with_kept self (item.Opaque text.now)) }
+    {
+        let text = copied(alloc, text.as_slice())?;
+        self.with_kept(Item::Opaque(text))
+    }
+
+    /// With a function, whose names these are.
     #[tactic(auto, unfolding(crate::specs::Resolved::resolved_function, crate::specs::Resolved::with_built))]
     fn with_function(
         self,
         alloc: Global,
         tops: &Scope<Top>,
+        own: &Locals,
         line: u32,
         head: &Head,
         body: &[Numbered],
     ) -> Result<Done, ResolveRefusal>
+        requires { locals_of line head.now body.now ≡ Ok own.now }
         ensures { Gives (λ after. after) result (resolved.resolved_function tops.now line self head.now body.now) }
     {
-        let locals = locals_of(alloc, line, head, body)?;
         let Done { mut items, lines } = self;
         let base = count_of(lines.len())?;
-        let built = built_of(alloc, tops, &locals.scope, base, line, lines, head, body)?;
+        let built = built_of(alloc, tops, &own.scope, base, line, lines, head, body)?;
         let blocks = closed(built.blocks, built.current)?;
         let func = func_of(alloc, base, head, blocks)?;
         items.push(Item::Func(func))?;
@@ -346,51 +366,40 @@ impl Done {
             lines: built.lines,
         })
     }
-
-    /// With an item.
-    fn with_item(
-        self,
-        alloc: Global,
-        tops: &Scope<Top>,
-        item: &DraftItem,
-    ) -> Result<Done, ResolveRefusal>
-        ensures { Gives (λ after. after) result (resolved.resolved_item tops.now self item.now) }
-    {
-        match item {
-            DraftItem::Kept { line: _, kept } => {
-                let text = kept.text.try_clone(alloc)?;
-                Ok(self.with_kept(Item::Kept(text))?)
-            }
-            DraftItem::Opaque {
-                line: _,
-                name: _,
-                text,
-            } => {
-                let text = text.try_clone(alloc)?;
-                Ok(self.with_kept(Item::Opaque(text))?)
-            }
-            DraftItem::Func { line, head, body } => {
-                self.with_function(alloc, tops, *line, head, body.as_slice())
-            }
-        }
-    }
 }
 
-/// The items of the module.
+/// The items of the module, whose names these are.
 pub(crate) fn resolved_items(
     alloc: Global,
-    tops: &Scope<Top>,
+    names: &ModuleNames,
     items: &[DraftItem],
 ) -> Result<Done, ResolveRefusal>
-    ensures { Gives (λ done. done) result (resolved.resolved_items tops.now (record { items = []; lines = [] }) items.now) }
+    requires { AreOwnNames items.now names.now.own }
+    ensures { Gives (λ done. done) result (resolved.resolved_items names.now.tops.scope (record { items = []; lines = [] }) items.now) }
 {
     let mut done = Done {
         items: Items::new(alloc),
         lines: Numbers::new(alloc),
     };
+    let tops = &names.tops.scope;
+    let mut own = names.own.as_slice();
     let mut rest = items;
     'each: while let [item, after @ ..] = rest {
-        done = done.with_item(alloc, tops, item)?;
+        match item {
+            DraftItem::Kept { line: _, kept } => done = done.with_line(alloc, &kept.text)?,
+            DraftItem::Opaque {
+                line: _,
+                name: _,
+                text,
+            } => done = done.with_opaque(alloc, text)?,
+            DraftItem::Func { line, head, body } => {
+                let [first, more @ ..] = own else {
+                    unreachable!()
+                };
+                done = done.with_function(alloc, tops, first, *line, head, body.as_slice())?;
+                own = more;
+            }
+        }
         rest = after;
     }
     Ok(done)

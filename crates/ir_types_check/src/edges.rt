@@ -10,12 +10,15 @@ use crate::locals::{Locals, Meaning};
 use crate::outline::At;
 use crate::scope::Scope;
 use ir_line::{Line, Numbered};
-use ir_types::{Names, Numbers, Op};
+use ir_types::{Names, Op};
 use std::alloc::{AllocError, Global};
-use vx_list::Seq;
+use vx_list::{Seq, Short};
+
+/// The blocks at the other ends of a few edges, mostly two at most.
+pub(crate) type Ends = Short<u32, 2>;
 
 /// For each block the blocks with an edge to it, one for each edge.
-pub(crate) type Sources = Seq<Numbers>;
+pub(crate) type Sources = Seq<Ends>;
 
 /// The number of the block that a label names.
 pub(crate) fn number_of(locals: &Scope<Meaning>, label: &[u8]) -> u32
@@ -43,10 +46,10 @@ pub(crate) fn numbers_at(
     locals: &Scope<Meaning>,
     labels: &Names,
     places: &[u32],
-) -> Result<Numbers, AllocError>
+) -> Result<Ends, AllocError>
     ensures { IfOk result (λ numbers. numbers ≡ map (typed.number_at locals.now labels.now) places.now) }
 {
-    let mut numbers = Numbers::new(alloc);
+    let mut numbers = Ends::new(alloc);
     for place in places {
         numbers.push(number_at(locals, labels, *place))?;
     }
@@ -59,14 +62,14 @@ pub(crate) fn targets(
     locals: &Scope<Meaning>,
     labels: &Names,
     op: &Op,
-) -> Result<Numbers, AllocError>
+) -> Result<Ends, AllocError>
     ensures { IfOk result (λ numbers. numbers ≡ typed.targets locals.now labels.now op.now) }
 {
     match op {
         Op::Br { to } => numbers_at(alloc, locals, labels, &[*to]),
         Op::CondBr { yes, no } => numbers_at(alloc, locals, labels, &[*yes, *no]),
         Op::Switch { other, .. } => numbers_at(alloc, locals, labels, &[*other]),
-        _ => Ok(Numbers::new(alloc)),
+        _ => Ok(Ends::new(alloc)),
     }
 }
 
@@ -76,7 +79,7 @@ fn add_edge(sources: &mut Sources, alloc: Global, from: u32, to: u32) -> Result<
 {
     let to = to as usize;
     if to < sources.len() {
-        let mut row = sources.replace(to, Numbers::new(alloc));
+        let mut row = sources.replace(to, Ends::new(alloc));
         row.push(from)?;
         sources.replace(to, row);
     }
@@ -166,7 +169,7 @@ fn no_edges(alloc: Global, blocks: u32) -> Result<Sources, AllocError>
 {
     let mut sources = Sources::new(alloc);
     for _block in 0..blocks {
-        sources.push(Numbers::new(alloc))?;
+        sources.push(Ends::new(alloc))?;
     }
     Ok(sources)
 }

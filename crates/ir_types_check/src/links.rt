@@ -9,6 +9,7 @@ ghost use Rattle.ir_types_check.specs.Links as links;
 ghost use Rattle.ir_types_check.specs.Scope.{meaning};
 
 use crate::ResolveRefusal;
+use crate::edges::Ends;
 use crate::locals::Meaning;
 use crate::scope::{Scope, with_sigil};
 use crate::tops::Top;
@@ -22,7 +23,7 @@ use vx_num::Lane;
 #[derive(Drop)]
 pub(crate) struct Linked {
     pub(crate) opds: Opds,
-    pub(crate) blocks: Numbers,
+    pub(crate) blocks: Ends,
 }
 
 /// The cases of a `switch`: numbers, and the block of each.
@@ -155,10 +156,10 @@ fn blocks_of(
     locals: &Scope<Meaning>,
     line: u32,
     labels: &[Bytes],
-) -> Result<Numbers, ResolveRefusal>
+) -> Result<Ends, ResolveRefusal>
     ensures { Gives (λ blocks. blocks) result (links.blocks_onto locals.now line [] labels.now) }
 {
-    let mut blocks = Numbers::new(alloc);
+    let mut blocks = Ends::new(alloc);
     let mut rest = labels;
     'each: while let [label, after @ ..] = rest {
         let block = block_of(alloc, locals, line, label.as_slice())?;
@@ -222,7 +223,7 @@ fn by_turns(
 {
     let mut whole = Linked {
         opds: Opds::new(alloc),
-        blocks: Numbers::new(alloc),
+        blocks: Ends::new(alloc),
     };
     let mut args = args;
     let mut labels = labels;
@@ -342,7 +343,7 @@ pub(crate) fn cases_of(
 }
 
 /// The block at a place among the labels.
-fn block_at(blocks: &Numbers, place: u32) -> u32
+fn block_at(blocks: &Ends, place: u32) -> u32
     ensures { result ≡ links.block_at blocks.now place }
 {
     match blocks.get(place as usize) {
@@ -352,7 +353,7 @@ fn block_at(blocks: &Numbers, place: u32) -> u32
 }
 
 /// The blocks at some places.
-fn blocks_at(alloc: Global, blocks: &Numbers, places: &[u32]) -> Result<Numbers, AllocError>
+fn blocks_at(alloc: Global, blocks: &Ends, places: &[u32]) -> Result<Numbers, AllocError>
     ensures { IfOk result (λ found. found ≡ map (links.block_at blocks.now) places.now) }
 {
     let mut found = Numbers::new(alloc);
@@ -363,12 +364,7 @@ fn blocks_at(alloc: Global, blocks: &Numbers, places: &[u32]) -> Result<Numbers,
 }
 
 /// The operation with blocks in place of the places of labels, and with its cases.
-pub(crate) fn op_of(
-    alloc: Global,
-    blocks: &Numbers,
-    cases: Cases,
-    op: &Op,
-) -> Result<Op, AllocError>
+pub(crate) fn op_of(alloc: Global, blocks: &Ends, cases: Cases, op: &Op) -> Result<Op, AllocError>
     ensures { IfOk result (λ whole. whole ≡ links.op_of blocks.now cases op.now) }
 {
     match op {

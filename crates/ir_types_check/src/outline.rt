@@ -7,11 +7,11 @@ ghost use Rattle.std.specs.Fmt.{decimal};
 ghost use Rattle.ir_types.specs.Formed.{is_terminator};
 ghost use Rattle.ir_types_check.specs.Outline as outline;
 
+use crate::scope::copied;
 use ir_line::{Line, Stmt};
 use ir_types::{Bytes, Op, Param};
 use itoa::Buffer;
 use std::alloc::{AllocError, Global};
-use vx_list::{Seq, TryClone};
 
 /// Where the next line stands.
 #[derive(Clone, Copy)]
@@ -48,10 +48,9 @@ pub(crate) fn count_of(len: usize) -> Result<u32, AllocError>
 pub(crate) fn decimal_name(alloc: Global, number: u32) -> Result<Bytes, AllocError>
     ensures { IfOk result (λ name. name ≡ decimal number) }
 {
-    let mut digits = Vec::new(alloc);
     let mut buffer = Buffer::new();
-    digits.extend_from_slice(buffer.format(number).as_bytes())?;
-    Ok(Seq::from_vec(digits))
+    let digits = copied(alloc, buffer.format(number).as_bytes())?;
+    Ok(digits)
 }
 
 /// Whether a name is a number.
@@ -81,7 +80,7 @@ pub(crate) fn written_name(alloc: Global, name: &Bytes) -> Result<Option<Bytes>,
     if is_number(name.as_slice()) {
         Ok(None)
     } else {
-        Ok(Some(name.try_clone(alloc)?))
+        Ok(Some(copied(alloc, name.as_slice())?))
     }
 }
 

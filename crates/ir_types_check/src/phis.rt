@@ -2,13 +2,14 @@
 //!
 //! `phi_fits` is the entry point; want of memory is the only failure.
 
-ghost use Rattle.std.specs.Prelude.{◌≡◌, [], IfOk, OnOk};
+ghost use Rattle.std.specs.Prelude.{◌≡◌, true, List, [], IsTrue, IfOk, OnOk};
+ghost use Rattle.ir_line.specs.declared.written.Arg.{Arg};
 ghost use Rattle.ir_types_check.specs.Scope.{meaning};
 ghost use Rattle.ir_types_check.specs.Typed as typed;
 
 use crate::edges::{Sources, numbers_at};
 use crate::locals::Meaning;
-use crate::scope::Scope;
+use crate::scope::{Scope, copied};
 use crate::types::same_ty;
 use ir_line::{Arg, Stmt, Written};
 use ir_types::{Bytes, Literal};
@@ -25,6 +26,16 @@ fn same_blocks(alloc: Global, left: &[u32], right: &[u32]) -> Result<bool, Alloc
     let mut right = Vec::from_slice(alloc, right)?;
     right.sort()?;
     Ok(left.as_slice() == right.as_slice())
+}
+
+/// The same, where mostly both stand in one order and nothing need be sorted.
+fn are_same(alloc: Global, left: &[u32], right: &[u32]) -> Result<bool, AllocError>
+    ensures { IfOk result (λ same. same ≡ typed.same_blocks left.now right.now) }
+{
+    if left == right {
+        return Ok(true);
+    }
+    same_blocks(alloc, left, right)
 }
 
 /// Whether two lanes are one.
@@ -81,8 +92,8 @@ fn copy_of(alloc: Global, written: &Written) -> Result<Written, AllocError>
     ensures { IfOk result (λ copy. copy ≡ written.now) }
 {
     match written {
-        Written::Local(name) => Ok(Written::Local(name.try_clone(alloc)?)),
-        Written::Symbol(name) => Ok(Written::Symbol(name.try_clone(alloc)?)),
+        Written::Local(name) => Ok(Written::Local(copied(alloc, name.as_slice())?)),
+        Written::Symbol(name) => Ok(Written::Symbol(copied(alloc, name.as_slice())?)),
         Written::Lit(literal) => Ok(Written::Lit(literal.try_clone(alloc)?)),
     }
 }
@@ -107,10 +118,28 @@ fn brings(
     }
 }
 
+/// Whether these are at most two labels, and none stands twice: then none brings two operands.
+#[tactic(auto, using(crate::proofs::Apart::one_agrees, crate::proofs::Apart::two_agree))]
+fn are_apart(labels: &[Bytes]) -> bool
+    ensures { IsTrue result → (args : List Arg) → typed.agree [] labels.now args ≡ true }
+{
+    let [one, others @ ..] = labels else {
+        return true;
+    };
+    let [other, more @ ..] = others else {
+        return true;
+    };
+    more.is_empty() && other.as_slice() != one.as_slice()
+}
+
 /// Whether each label brings one operand.
 fn agree(alloc: Global, labels: &[Bytes], args: &[Arg]) -> Result<bool, AllocError>
     ensures { IfOk result (λ fits. fits ≡ typed.agree [] labels.now args.now) }
 {
+    // Most blocks with a phi have two predecessors, and then nothing need be kept.
+    if are_apart(labels) {
+        return Ok(true);
+    }
     let mut brought = Scope::new(alloc);
     let mut labels = labels;
     let mut args = args;
@@ -152,7 +181,7 @@ pub(crate) fn phi_fits(
         return Ok(false);
     }
     let incoming = numbers_at(alloc, locals, &stmt.labels, places)?;
-    if !same_blocks(alloc, incoming.as_slice(), sources_at(sources, here))? {
+    if !are_same(alloc, incoming.as_slice(), sources_at(sources, here))? {
         return Ok(false);
     }
     agree(alloc, stmt.labels.as_slice(), stmt.args.as_slice())

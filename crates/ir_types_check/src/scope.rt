@@ -4,7 +4,7 @@
 //! memory is the only failure.
 
 ghost use Rattle.std.specs.Prelude.{◌≡◌, ◌∷◌, ◌++◌, [], None, OnOk, IfOk};
-ghost use Rattle.std.specs.Option.{option_copied};
+ghost use Rattle.std.specs.Option.{is_some, option_copied};
 ghost use Rattle.ir_types_check.specs.Answers.{Gives};
 ghost use Rattle.ir_types_check.specs.Scope as scope;
 
@@ -39,6 +39,14 @@ pub(crate) fn with_sigil(alloc: Global, sigil: u8, name: &[u8]) -> Result<Bytes,
     Ok(Seq::from_vec(whole))
 }
 
+/// A copy of a name or of another text, made in one piece.
+pub(crate) fn copied(alloc: Global, text: &[u8]) -> Result<Bytes, AllocError>
+    ensures { IfOk result (λ copy. copy ≡ text.now) }
+{
+    let copy = Vec::from_slice(alloc, text)?;
+    Ok(Seq::from_vec(copy))
+}
+
 impl<T: Drop> Scope<T> {
     /// No names.
     pub(crate) fn new(alloc: Global) -> Scope<T>
@@ -56,13 +64,22 @@ impl<T: Drop> Scope<T> {
         self.entries.get(name)
     }
 
+    /// Adds a name, or gives another meaning to one that was there; and whether it was.
+    fn put(&mut self, alloc: Global, name: &[u8], meaning: T) -> Result<bool, AllocError>
+        ensures was { IfOk result (λ was. was ≡ is_some (scope.meaning name.now self.old)) }
+        ensures added { OnOk result (scope.meaning name.now self.old ≡ None → self.new ≡ self.old ++ (name.now, meaning) ∷ []) }
+    {
+        let key = Vec::from_slice(alloc, name)?;
+        let before = self.entries.insert(key, meaning)?;
+        Ok(before.is_some())
+    }
+
     /// Adds a name that was not there.
     pub(crate) fn add(&mut self, alloc: Global, name: &[u8], meaning: T) -> Result<(), AllocError>
         requires { scope.meaning name.now self.old ≡ None }
         ensures { OnOk result (self.new ≡ self.old ++ (name.now, meaning) ∷ []) }
     {
-        let key = Vec::from_slice(alloc, name)?;
-        self.entries.insert(key, meaning)?;
+        self.put(alloc, name, meaning)?;
         Ok(())
     }
 
@@ -78,11 +95,10 @@ impl<T: Drop> Scope<T> {
     ) -> Result<(), ResolveRefusal>
         ensures { Gives (λ _. self.new) result (scope.define line sigil name.now meaning self.old) }
     {
-        if self.get(name).is_some() {
+        if self.put(alloc, name, meaning)? {
             let name = with_sigil(alloc, sigil, name)?;
             return Err(ResolveRefusal::TwiceDefined { line, name });
         }
-        self.add(alloc, name, meaning)?;
         Ok(())
     }
 }

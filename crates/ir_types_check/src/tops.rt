@@ -1,20 +1,21 @@
 //! `Tops`: what the names of a module mean.
 //!
-//! The entry point is `tops_of`. It fails at the first name that is defined twice, in the module or in a function, or for want of
-//! memory.
+//! Each entry point adds the name of an item. It fails where that is defined already, or a name of a function twice in it, or for
+//! want of memory.
 
-ghost use Rattle.std.specs.Prelude.{◌≡◌, IfOk};
+ghost use Rattle.std.specs.Prelude.{◌≡◌, [], Ok, IfOk};
 ghost use Rattle.ir_types_check.specs.Answers.{Gives};
+ghost use Rattle.ir_types_check.specs.Locals.{locals_of};
 ghost use Rattle.ir_types_check.specs.Tops as tops;
 
 use crate::ResolveRefusal;
-use crate::locals::locals_of;
+use crate::locals::{Locals, locals_of};
 use crate::outline::count_of;
-use crate::scope::Scope;
-use ir_line::{DraftItem, Head, Kept, Numbered};
+use crate::scope::{Scope, copied};
+use ir_line::{Head, Kept, Numbered};
 use ir_types::{Bytes, Names, Ty};
 use std::alloc::{AllocError, Global};
-use vx_list::{Seq, TryClone};
+use vx_list::Seq;
 
 /// What a function gives and takes.
 #[derive(Drop)]
@@ -57,6 +58,16 @@ fn signature_of(alloc: Global, head: &Head) -> Result<Signature, AllocError>
 }
 
 impl Tops {
+    /// No names.
+    pub(crate) fn new(alloc: Global) -> Tops
+        ensures { result ≡ record { scope = []; globals = [] } }
+    {
+        Tops {
+            scope: Scope::new(alloc),
+            globals: Names::new(alloc),
+        }
+    }
+
     /// With a name that is no global.
     #[tactic(auto, unfolding(crate::specs::Tops::with_top))]
     fn add(&mut self, alloc: Global, line: u32, name: &[u8], top: Top) -> Result<(), ResolveRefusal>
@@ -74,12 +85,17 @@ impl Tops {
         let number = count_of(self.globals.len())?;
         self.scope
             .define(alloc, line, b'@', name.as_slice(), Top::Global(number))?;
-        self.globals.push(name.try_clone(alloc)?)?;
+        self.globals.push(copied(alloc, name.as_slice())?)?;
         Ok(())
     }
 
     /// With the symbol of a kept line.
-    fn add_kept(&mut self, alloc: Global, line: u32, kept: &Kept) -> Result<(), ResolveRefusal>
+    pub(crate) fn add_kept(
+        &mut self,
+        alloc: Global,
+        line: u32,
+        kept: &Kept,
+    ) -> Result<(), ResolveRefusal>
         ensures { Gives (λ _. self.new) result (tops.with_symbol line self.old kept.now.global kept.now.symbol) }
     {
         match &kept.symbol {
@@ -95,7 +111,7 @@ impl Tops {
     }
 
     /// With the name of an opaque function.
-    fn add_opaque(
+    pub(crate) fn add_opaque(
         &mut self,
         alloc: Global,
         line: u32,
@@ -109,53 +125,21 @@ impl Tops {
         }
     }
 
-    /// With a function.
+    /// With a function. Its own names are given.
     #[tactic(auto, unfolding(crate::specs::Tops::with_function))]
-    fn add_function(
+    pub(crate) fn add_function(
         &mut self,
         alloc: Global,
         line: u32,
         head: &Head,
         body: &[Numbered],
-    ) -> Result<(), ResolveRefusal>
-        ensures { Gives (λ _. self.new) result (tops.with_function line self.old head.now body.now) }
+    ) -> Result<Locals, ResolveRefusal>
+        ensures names { Gives (λ _. self.new) result (tops.with_function line self.old head.now body.now) }
+        ensures own { IfOk result (λ own. locals_of line head.now body.now ≡ Ok own) }
     {
         let signature = signature_of(alloc, head)?;
         self.add(alloc, line, head.name.as_slice(), Top::Function(signature))?;
-        locals_of(alloc, line, head, body)?;
-        Ok(())
+        let own = locals_of(alloc, line, head, body)?;
+        Ok(own)
     }
-
-    /// With an item.
-    fn add_item(&mut self, alloc: Global, item: &DraftItem) -> Result<(), ResolveRefusal>
-        ensures { Gives (λ _. self.new) result (tops.with_item self.old item.now) }
-    {
-        match item {
-            DraftItem::Kept { line, kept } => self.add_kept(alloc, *line, kept),
-            DraftItem::Opaque {
-                line,
-                name,
-                text: _,
-            } => self.add_opaque(alloc, *line, name),
-            DraftItem::Func { line, head, body } => {
-                self.add_function(alloc, *line, head, body.as_slice())
-            }
-        }
-    }
-}
-
-/// The names of a module.
-pub(crate) fn tops_of(alloc: Global, items: &[DraftItem]) -> Result<Tops, ResolveRefusal>
-    ensures { Gives (λ whole. whole) result (tops.tops_of items.now) }
-{
-    let mut whole = Tops {
-        scope: Scope::new(alloc),
-        globals: Names::new(alloc),
-    };
-    let mut rest = items;
-    'each: while let [item, after @ ..] = rest {
-        whole.add_item(alloc, item)?;
-        rest = after;
-    }
-    Ok(whole)
 }

@@ -7,13 +7,15 @@ ghost use Rattle.std.specs.List.{list_all};
 ghost use Rattle.ir_types_check.specs.Answers.{Gives, well_typed};
 ghost use Rattle.ir_types_check.specs.Links.{choices};
 ghost use Rattle.ir_types_check.specs.Outline.{start};
+ghost use Rattle.ir_types_check.specs.OwnNames.{AreOwnNames};
 ghost use Rattle.ir_types_check.specs.Typed as typed;
 
 use crate::ResolveRefusal;
 use crate::cases::Seen;
 use crate::edges::{Sources, number_of, sources_of, targets};
 use crate::links::lane_of;
-use crate::locals::{Meaning, locals_of};
+use crate::locals::{Locals, Meaning};
+use crate::module_names::ModuleNames;
 use crate::outline::At;
 use crate::phis::phi_fits;
 use crate::scope::Scope;
@@ -210,45 +212,45 @@ fn lines_typed(
     Ok(())
 }
 
-/// A function.
-#[tactic(auto, unfolding(crate::specs::Typed::function_typed))]
+/// A function, whose names these are.
 fn function_typed(
     alloc: Global,
     tops: &Scope<Top>,
-    line: u32,
+    own: &Locals,
     head: &Head,
     body: &[Numbered],
 ) -> Result<(), ResolveRefusal>
-    ensures { Gives (λ done. done) result (typed.function_typed tops.now line head.now body.now) }
+    ensures { Gives (λ done. done) result (typed.lines_typed tops.now own.now.scope head.now.ret (typed.sources_of own.now body.now) start body.now) }
 {
-    let locals = locals_of(alloc, line, head, body)?;
-    let sources = sources_of(alloc, &locals, body)?;
-    lines_typed(alloc, tops, &locals.scope, head.ret, &sources, body)
+    let sources = sources_of(alloc, own, body)?;
+    lines_typed(alloc, tops, &own.scope, head.ret, &sources, body)
 }
 
-/// An item.
-fn item_typed(alloc: Global, tops: &Scope<Top>, item: &DraftItem) -> Result<(), ResolveRefusal>
-    ensures { Gives (λ done. done) result (typed.item_typed tops.now item.now) }
-{
-    match item {
-        DraftItem::Func { line, head, body } => {
-            function_typed(alloc, tops, *line, head, body.as_slice())
-        }
-        _ => Ok(()),
-    }
-}
-
-/// All items.
+/// All items, whose names these are.
+#[tactic(auto, unfolding(crate::specs::Typed::function_typed))]
 pub(crate) fn items_typed(
     alloc: Global,
-    tops: &Scope<Top>,
+    names: &ModuleNames,
     items: &[DraftItem],
 ) -> Result<(), ResolveRefusal>
-    ensures { Gives (λ done. done) result (typed.items_typed tops.now items.now) }
+    requires { AreOwnNames items.now names.now.own }
+    ensures { Gives (λ done. done) result (typed.items_typed names.now.tops.scope items.now) }
 {
+    let mut own = names.own.as_slice();
     let mut rest = items;
     'each: while let [item, after @ ..] = rest {
-        item_typed(alloc, tops, item)?;
+        if let DraftItem::Func {
+            line: _,
+            head,
+            body,
+        } = item
+        {
+            let [first, more @ ..] = own else {
+                unreachable!()
+            };
+            function_typed(alloc, &names.tops.scope, first, head, body.as_slice())?;
+            own = more;
+        }
         rest = after;
     }
     Ok(())
