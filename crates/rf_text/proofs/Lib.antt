@@ -49,6 +49,14 @@ pub mod ReadableLines
 pub mod ReadableModule
 pub mod ReadableNames
 pub mod Renumbering
+pub mod SpelledBuilt
+pub mod SpelledForms
+pub mod SpelledInsts
+pub mod SpelledLines
+pub mod SpelledModule
+pub mod SpelledNumbers
+pub mod SpelledOrder
+pub mod SpelledScope
 pub mod Splitting
 pub mod TextLines
 pub mod TextLinesBodies

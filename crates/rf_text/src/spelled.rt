@@ -1,0 +1,9 @@
+//! The law of what a text is, said of its lines and names alone.
+
+ghost use Rattle.rf_text.specs.Spells.{AcceptedTextsSpell};
+
+/// A text that is accepted spells its module: each line has the form that the module has there, with the module's own names in the
+/// place of ids.
+pub fn accepted_texts_spell()
+    ensures { AcceptedTextsSpell }
+{}
