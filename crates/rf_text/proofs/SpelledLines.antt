@@ -25,7 +25,8 @@ use Rattle.ir_types_check.proofs.BodyIds.{length_param_lines}
 use Rattle.ir_types_check.proofs.Handed.{LocalMeaning, value_at, block_at, LinePlace, LocalNames, BuiltSoFar, TopMeaning}
 use Rattle.ir_types_check.proofs.ReadLinks.{AreKnown}
 use Rattle.rf_text.specs.Spelled.{MayWrite, AsShown, LeftOut, IsWrittenParam, IsHeaderOf, AreBlocks, NoBlock, Labelled, Unlabelled}
-use Rattle.rf_text.specs.Written.{shown_text, shown_block, forms_of, insts_forms}
+use Rattle.rf_text.specs.ModuleForms.{insts_forms}
+use Rattle.rf_text.specs.Written.{shown_text, shown_block, forms_of}
 use Rattle.rf_text.proofs.NamedLocals.{locals}
 use Rattle.rf_text.proofs.NamedPlaces.{id_at, Placed}
 use Rattle.rf_text.proofs.NamedThings.{Thing, inst_thing, params_things, named_things, things_are, scope_from}

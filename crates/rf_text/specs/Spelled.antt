@@ -25,8 +25,8 @@ use Rattle.ir_line.specs.Outside.{Spells as SpellsOutside}
 use Rattle.ir_print.specs.Names.{Names, names_of, local_of}
 use Rattle.ir_read.specs.Lines.{lines_of}
 use Rattle.rf_text.specs.Headed.{first_name}
-use Rattle.rf_text.specs.Written.{shown_text, shown_block, insts_forms}
-use Rattle.rf_text.specs.ModuleForms.{kept_at}
+use Rattle.rf_text.specs.Written.{shown_text, shown_block}
+use Rattle.rf_text.specs.ModuleForms.{insts_forms, kept_at}
 use Rattle.rf_text.specs.Printable.{IsPrintable, IsNumbered}
 
 -- ---- the lines of a text
