@@ -53,10 +53,16 @@ pub mod SpelledBuilt
 pub mod SpelledForms
 pub mod SpelledInsts
 pub mod SpelledLines
+pub mod SpelledMarks
 pub mod SpelledModule
 pub mod SpelledNumbers
 pub mod SpelledOrder
 pub mod SpelledScope
+pub mod SpellingBuilt
+pub mod SpellingItems
+pub mod SpellingLocals
+pub mod SpellingPlaced
+pub mod SpellingReads
 pub mod Splitting
 pub mod TextLines
 pub mod TextLinesBodies

@@ -74,7 +74,7 @@ abbrev pub opening : Bool → List Mark → List Mark
 opening true ms = ms
 opening false ms = Starts None ∷ ms
 
-with_marks : (n : ℕ) (b : BuiltSoFar) (inst : Inst) → so_far (with_inst n b inst) ≡ so_far b ++ opening (is_some b.current) (Does inst ∷ [])
+pub with_marks : (n : ℕ) (b : BuiltSoFar) (inst : Inst) → so_far (with_inst n b inst) ≡ so_far b ++ opening (is_some b.current) (Does inst ∷ [])
 unfolding with_inst
 with_marks n b inst = ap marks (same (is_terminator inst.op)) ∙ go b.current where
   same : (t : Bool) → closed (settled t b.blocks (with_last (open_block b.current) inst) (b.lines ++ n ∷ [])).blocks (settled t b.blocks (with_last (open_block b.current) inst) (b.lines ++ n ∷ [])).current
@@ -89,22 +89,22 @@ with_marks n b inst = ap marks (same (is_terminator inst.op)) ∙ go b.current w
       ∙ sym (append_assoc (marks b.blocks) (Starts block.name ∷ insts_marks block.insts []) (Does inst ∷ []))
       ∙ ap (λ ms. ms ++ Does inst ∷ []) (sym (marks_push b.blocks block))
 
-with_open : (n : ℕ) (b : BuiltSoFar) (inst : Inst) → is_some (with_inst n b inst).current ≡ not (is_terminator inst.op)
+pub with_open : (n : ℕ) (b : BuiltSoFar) (inst : Inst) → is_some (with_inst n b inst).current ≡ not (is_terminator inst.op)
 unfolding with_inst
 with_open n b inst = go (is_terminator inst.op) where
   go : (t : Bool) → is_some (settled t b.blocks (with_last (open_block b.current) inst) (b.lines ++ n ∷ [])).current ≡ not t
   go true = refl
   go false = refl
 
-label_marks : (b : BuiltSoFar) (name : List ℕ) → so_far (labelled b name) ≡ so_far b ++ Starts (written_name name) ∷ []
+pub label_marks : (b : BuiltSoFar) (name : List ℕ) → so_far (labelled b name) ≡ so_far b ++ Starts (written_name name) ∷ []
 unfolding labelled
 label_marks b name = marks_push (closed b.blocks b.current) (record { name = written_name name; insts = [] })
 
-label_open : (b : BuiltSoFar) (name : List ℕ) → is_some (labelled b name).current ≡ true
+pub label_open : (b : BuiltSoFar) (name : List ℕ) → is_some (labelled b name).current ≡ true
 unfolding labelled
 label_open b name = refl
 
-label_lines : (b : BuiltSoFar) (name : List ℕ) → (labelled b name).lines ≡ b.lines
+pub label_lines : (b : BuiltSoFar) (name : List ℕ) → (labelled b name).lines ≡ b.lines
 unfolding labelled
 label_lines b name = refl
 

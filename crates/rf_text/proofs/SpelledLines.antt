@@ -1,12 +1,11 @@
 -- A function that was read, whose names are known and whose lines are well typed: its lines are those that the function has.
-use Rattle.std.proofs.Common.{◌≡◌, ℕ, ◌+◌, ◌⊎◌, inl, inr, Bool, true, false, not, List, [], ◌∷◌, ◌++◌, length, map, Option, Some, None, Ok, refl, sym, ◌∙◌, ap, subst, append_assoc, arith}
+use Rattle.std.proofs.Common.{◌≡◌, ℕ, ◌+◌, inl, inr, Bool, true, false, not, List, [], ◌∷◌, ◌++◌, length, map, Option, Some, None, Ok, refl, sym, ◌∙◌, ap, subst, arith}
 use Rattle.std.specs.Prelude.{slice_get, unwrap_or}
 use Rattle.std.specs.List.{All, AllZip, list_all}
 use Rattle.std.proofs.lemmas.List.Elements.{All-head, All-tail}
 use Rattle.ir_types.specs.declared.ty.Ty.{Ty}
 use Rattle.ir_types.specs.declared.inst.Inst.{Inst}
 use Rattle.ir_types.specs.declared.func.Param.{Param}
-use Rattle.ir_types.specs.declared.func.Block.{Block}
 use Rattle.ir_types.specs.declared.func.Func.{Func}
 use Rattle.ir_types.specs.Formed.{is_terminator}
 use Rattle.ir_line.specs.declared.head.Head.{Head}
@@ -24,15 +23,15 @@ use Rattle.ir_types_check.proofs.Binding.{bind_ok, both, typed_line}
 use Rattle.ir_types_check.proofs.BodyIds.{length_param_lines}
 use Rattle.ir_types_check.proofs.Handed.{LocalMeaning, value_at, block_at, LinePlace, LocalNames, BuiltSoFar, TopMeaning}
 use Rattle.ir_types_check.proofs.ReadLinks.{AreKnown}
-use Rattle.rf_text.specs.Spelled.{MayWrite, AsShown, LeftOut, IsWrittenParam, IsHeaderOf, AreBlocks, NoBlock, Labelled, Unlabelled}
-use Rattle.rf_text.specs.ModuleForms.{insts_forms}
+use Rattle.rf_text.specs.Spelled.{MayWrite, AsShown, LeftOut, IsWrittenParam, IsHeaderOf, AreBlocks}
 use Rattle.rf_text.specs.Written.{shown_text, shown_block, forms_of}
 use Rattle.rf_text.proofs.NamedLocals.{locals}
 use Rattle.rf_text.proofs.NamedPlaces.{id_at, Placed}
 use Rattle.rf_text.proofs.NamedThings.{Thing, inst_thing, params_things, named_things, things_are, scope_from}
 use Rattle.rf_text.proofs.SpelledForms.{IsGoodLine}
 use Rattle.rf_text.proofs.SpelledOrder.{here, is_switch, IsNextResult, Stands, next_behind, open_behind, choosing_behind, InOrder, ParamsInOrder, behind_params, IsGood, IsOrdered, form_of}
-use Rattle.rf_text.proofs.SpelledBuilt.{Mark, Starts, Does, insts_marks, marks, marks_things, things_same, opening, LineBuilt, AreBuilt, IsBuilt, lines_built}
+use Rattle.rf_text.proofs.SpelledMarks.{SayMarks, blocks_say}
+use Rattle.rf_text.proofs.SpelledBuilt.{Mark, Starts, Does, marks, marks_things, things_same, opening, LineBuilt, AreBuilt, IsBuilt, lines_built}
 use Rattle.rf_text.proofs.SpelledScope.{IsInst, inst_is, thing_of, thing_is, begins, places_behind, places_are, AreNamed, params_named, lines_named, lines_placed, params_placed, shown_again, counted_again, Meant, meant, value_shown, block_shown, Shows, shows_from, shows_behind, counted_param}
 use Rattle.rf_text.proofs.SpelledInsts.{pending, AreShown, inst_spelled}
 
@@ -62,29 +61,7 @@ lines_are_typed tops scope ret edges at (x ∷ xs) u e =
 -- ---- what marks say
 
 module _ (gs : List (List ℕ)) (ns : Names) where
-  -- the lines of marks, where k is the number of the next block
-  abbrev SayMarks : ℕ → List Mark → List Line → Type 0
-  SayMarks k [] fs = fs ≡ []
-  SayMarks k (Starts name ∷ ms) fs = (rest : List Line) × ((fs ≡ line.Label (shown_block ns k) ∷ rest) ⊎ ((name ≡ None) × (fs ≡ rest))) × SayMarks (k + 1) ms rest
-  SayMarks k (Does inst ∷ ms) fs = (rest : List Line) × (fs ≡ forms_of ns gs inst ++ rest) × SayMarks k ms rest
-
-  insts_say : (k : ℕ) (is : List Inst) (ms : List Mark) (fs : List Line) → SayMarks k (insts_marks is ms) fs → (rest : List Line) × (fs ≡ insts_forms ns gs is ++ rest) × SayMarks k ms rest
-  insts_say k [] ms fs h = (fs, refl, h)
-  insts_say k (i ∷ is) ms fs h =
-      let r : (rest : List Line) × (h.0 ≡ insts_forms ns gs is ++ rest) × SayMarks k ms rest = insts_say k is ms h.0 h.2 in
-      (r.0, h.1 ∙ ap (λ xs. forms_of ns gs i ++ xs) r.1 ∙ sym (append_assoc (forms_of ns gs i) (insts_forms ns gs is) r.0), r.2)
-
-  blocks_say : (k : ℕ) (bs : List Block) (fs : List Line) → SayMarks k (marks bs) fs → AreBlocks ns gs k bs fs
-  blocks_say k [] fs h = subst (AreBlocks ns gs k []) (sym h) (NoBlock k)
-  blocks_say k (b ∷ bs) fs h =
-      let r : (rest : List Line) × (h.0 ≡ insts_forms ns gs b.insts ++ rest) × SayMarks (k + 1) (marks bs) rest = insts_say (k + 1) b.insts (marks bs) h.0 h.2 in
-      let more : AreBlocks ns gs (k + 1) bs r.0 = blocks_say (k + 1) bs r.0 r.2 in
-      elim h.1 as (λ _. AreBlocks ns gs k (b ∷ bs) fs) [
-        | inl e ↦ subst (AreBlocks ns gs k (b ∷ bs)) (sym (e ∙ ap (λ xs. line.Label (shown_block ns k) ∷ xs) r.1)) (Labelled k b bs r.0 more)
-        | inr e ↦ subst (AreBlocks ns gs k (b ∷ bs)) (sym (e.1 ∙ r.1)) (Unlabelled k b bs r.0 e.0 more)
-      ]
-
-  opening_says : (o : Bool) (k : ℕ) (ms : List Mark) (fs : List Line) → SayMarks (begins o k) ms fs → SayMarks k (opening o ms) fs
+  opening_says : (o : Bool) (k : ℕ) (ms : List Mark) (fs : List Line) → SayMarks gs ns (begins o k) ms fs → SayMarks gs ns k (opening o ms) fs
   opening_says true k ms fs h = h
   opening_says false k ms fs h = (fs, inr (refl, refl), h)
 
@@ -105,7 +82,7 @@ module _ (gs : List (List ℕ)) (ns : Names) where
     record AreSaid (k : ℕ) (c : Bool) (body : List Numbered) (ms : List Mark) : Type 0 where
       rest : List Line
       split : map form_of body ≡ pending c body ++ rest
-      says : SayMarks k ms rest
+      says : SayMarks gs ns k ms rest
 
     Rest : List Numbered → Type 0
     Rest xs = (n p k : ℕ) (o c : Bool) (ms : List Mark) → InOrder n o c xs → AreBuilt tops scope base o p xs ms → Shows base ns n k (marks_things ms) → AreSaid k c xs ms
@@ -120,7 +97,7 @@ module _ (gs : List (List ℕ)) (ns : Names) where
         record {
           rest = line.Label name ∷ r.rest;
           split = ap (λ fs. line.Label name ∷ fs) r.split ∙ sym (ap (λ c. pending c (record { line = ln; form = line.Label name } ∷ xs) ++ line.Label name ∷ r.rest) stands.0);
-          says = subst (λ ys. SayMarks k ys (line.Label name ∷ r.rest)) (sym built.1) (r.rest, inl (ap (λ x. line.Label x ∷ r.rest) (sym label)), r.says);
+          says = subst (λ ys. SayMarks gs ns k ys (line.Label name ∷ r.rest)) (sym built.1) (r.rest, inl (ap (λ x. line.Label x ∷ r.rest) (sym label)), r.says);
         }
     line_said ln n p k o c (line.Stmt s) xs ms stands order good more typed built shows next =
         let inst : Inst = built.0 in
@@ -135,7 +112,7 @@ module _ (gs : List (List ℕ)) (ns : Names) where
         record {
           rest = line.Stmt s ∷ map form_of xs;
           split = sym (ap (λ c. pending c (record { line = ln; form = line.Stmt s } ∷ xs) ++ line.Stmt s ∷ map form_of xs) stands.0);
-          says = subst (λ ys. SayMarks k ys (line.Stmt s ∷ map form_of xs)) (sym built.3)
+          says = subst (λ ys. SayMarks gs ns k ys (line.Stmt s ∷ map form_of xs)) (sym built.3)
               (opening_says o k (Does inst ∷ built.1) (line.Stmt s ∷ map form_of xs) (r.rest, ap (λ fs. line.Stmt s ∷ fs) r.split ∙ sym (ap (λ fs. fs ++ r.rest) lines), r.says));
         }
     line_said ln n p k o c (line.Case value label) xs ms stands order good more typed built shows next =
@@ -159,7 +136,7 @@ module _ (gs : List (List ℕ)) (ns : Names) where
 
     lines_said : (n p k : ℕ) (o c : Bool) (body : List Numbered) (ms : List Mark) → InOrder n o c body → All IsGood body → AreTyped scope body → AreBuilt tops scope base o p body ms → Shows base ns n k (marks_things ms) → AreSaid k c body ms
     unfolding Rest
-    lines_said n p k o c [] ms order good typed built shows = record { rest = []; split = sym (ap (λ c. pending c [] ++ []) order); says = subst (λ ys. SayMarks k ys []) (sym built) refl }
+    lines_said n p k o c [] ms order good typed built shows = record { rest = []; split = sym (ap (λ c. pending c [] ++ []) order); says = subst (λ ys. SayMarks gs ns k ys []) (sym built) refl }
     lines_said n p k o c (x ∷ xs) ms order good typed built shows =
         line_said x.line n p k o c x.form xs ms order.0 order.1 (All-head IsGood x xs good) (All-tail IsGood x xs good) typed.0 built shows
         (λ n' p' k' o' c' more order' built' shows'. lines_said n' p' k' o' c' xs more order' (All-tail IsGood x xs good) typed.1 built' shows')

@@ -57,7 +57,7 @@ all_sound n (l ∷ ls) e = go (fault_of l) refl e (λ h. all_sound (n + 1) ls h)
   go None f e more = All-cons (λ l. fault_of l ≡ None) l ls f (more e)
   go (Some k) f e more = refused e
 
-after_inside : (form : Line) → inside_after true (Some form) ≡ not (closes form)
+pub after_inside : (form : Line) → inside_after true (Some form) ≡ not (closes form)
 after_inside line.Empty = refl
 after_inside (line.Kept kept) = refl
 after_inside (line.Define name head) = refl
@@ -67,7 +67,7 @@ after_inside (line.Stmt s) = refl
 after_inside (line.Case value label) = refl
 after_inside line.CasesEnd = refl
 
-after_outside : (form : Line) → inside_after false (Some form) ≡ opens form
+pub after_outside : (form : Line) → inside_after false (Some form) ≡ opens form
 after_outside line.Empty = refl
 after_outside (line.Kept kept) = refl
 after_outside (line.Define name head) = refl

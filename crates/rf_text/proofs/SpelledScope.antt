@@ -163,7 +163,7 @@ params_named ln k n p b o done after (prm ∷ ps) order e =
 -- lines
 
 -- what an instruction names where a block is open or not, and the number of the next block behind
-abbrev begun : Bool → ℕ → ℕ → Scope LocalMeaning
+abbrev pub begun : Bool → ℕ → ℕ → Scope LocalMeaning
 begun true n b = []
 begun false n b = (decimal n, block_at b) ∷ []
 
@@ -193,7 +193,7 @@ label_is : (ln n p b : ℕ) (o : Bool) (done : Scope LocalMeaning) (m : LocalNam
 unfolding with_label behind_label
 label_is ln n p b o done m name e = with_name_is ln (locals done n p b o) m name (block_at b) _ e
 
-opening_scope : (o : Bool) (n p b : ℕ) (ms : List Mark) → scope_from n p b (marks_things (opening o ms)) ≡ begun o n b ++ scope_from (here o n) p (begins o b) (marks_things ms)
+pub opening_scope : (o : Bool) (n p b : ℕ) (ms : List Mark) → scope_from n p b (marks_things (opening o ms)) ≡ begun o n b ++ scope_from (here o n) p (begins o b) (marks_things ms)
 opening_scope true n p b ms = refl
 opening_scope false n p b ms = refl
 
