@@ -1,5 +1,5 @@
 -- Bodies of functions are read again as they are printed: blocks with their labels, and the brace.
-use Rattle.std.proofs.Common.{◌≡◌, ℕ, suc, zero, ◌+◌, Bool, List, [], ◌∷◌, ◌++◌, Option, Some, None, refl, codes}
+use Rattle.std.proofs.Common.{◌≡◌, ℕ, suc, zero, ◌+◌, Bool, List, [], ◌∷◌, ◌++◌, Option, Some, None, refl, subst, append_assoc, codes}
 use Rattle.std.proofs.lemmas.List.Elements.{All-head, All-tail}
 use Rattle.std.specs.List.{All, slice_get}
 use Rattle.ir_types.specs.declared.inst.Inst.{Inst}
@@ -7,13 +7,14 @@ use Rattle.ir_types.specs.declared.func.Block.{Block}
 use Rattle.ir_lex.specs.Scan.{fault_of}
 use Rattle.ir_line.specs.declared.line.Line.{Line}
 use Rattle.ir_line.specs.declared.line.Line.TheVariants.{Close}
+use Rattle.ir_line.specs.declared.line.Line.TheVariants as line
 use Rattle.ir_line.proofs.Steps.{nothing}
 use Rattle.ir_print.specs.Names.{Names}
 use Rattle.ir_print.specs.Instructions.{insts_text}
 use Rattle.ir_print.specs.Text.{label_line, next_block, more_blocks, blocks_text}
 use Rattle.ir_read.specs.Forms.{form_in, sound_form}
 use Rattle.rf_text.specs.Shown.{IsLocalName}
-use Rattle.rf_text.specs.Written.{insts_forms, label_forms, next_forms, more_block_forms, body_forms}
+use Rattle.rf_text.specs.ModuleForms.{label_forms, insts_forms, more_blocks_forms, blocks_forms}
 use Rattle.rf_text.specs.Printed.{Printed, IsReadAgain, IsShownLabel}
 use Rattle.rf_text.proofs.Insts.{printed_append}
 use Rattle.rf_text.proofs.InstsLabels.{label_printed, brace_printed, empty_printed}
@@ -46,18 +47,20 @@ module _ (ns : Names) (gs : List (List ℕ)) (labels : All IsLocalName ns.labels
   abbrev Insts : Block → Type 0
   Insts b = All (IsReadAgain ns gs) b.insts
 
-  next_printed : (at : ℕ) (b : Block) → Insts b → Printed (next_block ns gs at b) (next_forms ns gs at b)
+  next_printed : (at : ℕ) (b : Block) → Insts b → Printed (next_block ns gs at b) (line.Empty ∷ (label_forms (slice_get ns.labels at) ++ insts_forms ns gs b.insts))
   next_printed at b insts = printed_append empty_printed (printed_append (label_line_printed (slice_get ns.labels at) (label_at ns.labels at labels)) (insts_printed ns gs b.insts insts))
 
-  more_printed : (at : ℕ) (bs : List Block) → All Insts bs → Printed (more_blocks ns gs at bs) (more_block_forms ns gs at bs)
+  more_printed : (at : ℕ) (bs : List Block) → All Insts bs → Printed (more_blocks ns gs at bs) (more_blocks_forms ns gs at bs)
   more_printed at [] all = nothing_printed
-  more_printed at (b ∷ bs) all = printed_append (next_printed at b (All-head Insts b bs all)) (more_printed (at + 1) bs (All-tail Insts b bs all))
+  more_printed at (b ∷ bs) all =
+      subst (λ fs. Printed (more_blocks ns gs at (b ∷ bs)) (line.Empty ∷ fs)) (append_assoc (label_forms (slice_get ns.labels at)) (insts_forms ns gs b.insts) (more_blocks_forms ns gs (at + 1) bs))
+      (printed_append (next_printed at b (All-head Insts b bs all)) (more_printed (at + 1) bs (All-tail Insts b bs all)))
 
-  blocks_printed : (bs : List Block) → All (λ (b : Block). IsShownLabel b.name) bs → All Insts bs → Printed (blocks_text ns gs bs) (body_forms ns gs bs)
+  blocks_printed : (bs : List Block) → All (λ (b : Block). IsShownLabel b.name) bs → All Insts bs → Printed (blocks_text ns gs bs) (blocks_forms ns gs bs)
   blocks_printed [] names all = nothing_printed
   blocks_printed (b ∷ bs) names all =
       printed_append (label_line_printed b.name (All-head (λ (b : Block). IsShownLabel b.name) b bs names))
       (printed_append (insts_printed ns gs b.insts (All-head Insts b bs all)) (more_printed 1 bs (All-tail Insts b bs all)))
 
-  pub body_printed : (bs : List Block) → All (λ (b : Block). IsShownLabel b.name) bs → All Insts bs → Printed (blocks_text ns gs bs ++ codes "}\n") (body_forms ns gs bs ++ Close ∷ [])
+  pub body_printed : (bs : List Block) → All (λ (b : Block). IsShownLabel b.name) bs → All Insts bs → Printed (blocks_text ns gs bs ++ codes "}\n") (blocks_forms ns gs bs ++ Close ∷ [])
   body_printed bs names all = printed_append (blocks_printed bs names all) brace_printed

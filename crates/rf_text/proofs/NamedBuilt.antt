@@ -62,14 +62,14 @@ module _ (tops : Scope TopMeaning) (scope : Scope LocalMeaning) (base : ℕ) (ns
     pub insts : All IsReadInst b.insts
 
   -- behind an instruction, its name as it was
-  record Stepped (n p b : ℕ) (v w : Bool) (i : Inst) (rest : List Thing) : Type 0 where
-    next : ℕ
-    name : written_again (result_of v w (shown_text (local_of i.id ns.locals))) ≡ i.name
-    id : i.id ≡ id_at base p
-    count : length (ids_things (inst_thing v w i ∷ rest)) ≡ length (ids_things rest) + 1
-    known : Known base scope ns next (p + 1) b rest
+  pub record Stepped (n p b : ℕ) (v w : Bool) (i : Inst) (rest : List Thing) : Type 0 where
+    pub next : ℕ
+    pub name : written_again (result_of v w (shown_text (local_of i.id ns.locals))) ≡ i.name
+    pub id : i.id ≡ id_at base p
+    pub count : length (ids_things (inst_thing v w i ∷ rest)) ≡ length (ids_things rest) + 1
+    pub known : Known base scope ns next (p + 1) b rest
 
-  stepped : (n p b : ℕ) (v w : Bool) (i : Inst) (rest : List Thing) → (not v && not w ≡ false → i.name ≡ None) → Known base scope ns n p b (inst_thing v w i ∷ rest) → Stepped n p b v w i rest
+  pub stepped : (n p b : ℕ) (v w : Bool) (i : Inst) (rest : List Thing) → (not v && not w ≡ false → i.name ≡ None) → Known base scope ns n p b (inst_thing v w i ∷ rest) → Stepped n p b v w i rest
   stepped n p b false false i rest silent known = record {
     next = counted n i.name;
     name = ap (λ (l : Option Local). written_again (Some (shown_text l))) known.0.shows ∙ known.0.once_more.name_again;

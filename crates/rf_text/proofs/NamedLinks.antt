@@ -46,11 +46,11 @@ places_again all front (b ∷ bs) k e many =
     let rest : map (block_at all) (places_from (k + 1) bs) ≡ bs = places_again all (front ++ b ∷ []) bs (k + 1) (e ∙ sym (append_assoc front (b ∷ []) bs)) (push_length front b k many) in
     ap (λ (x : ℕ). x ∷ map (block_at all) (places_from (k + 1) bs)) first ∙ ap (λ (xs : List ℕ). b ∷ xs) rest
 
-abbrev cases_in : Op → LinkedCases
+abbrev pub cases_in : Op → LinkedCases
 cases_in (Switch other cases to) = record { values = cases; to = to }
 cases_in op = record { values = []; to = [] }
 
-op_again : (op : Op) → linked_op (line_blocks op) (cases_in op) (op_of op) ≡ op
+pub op_again : (op : Op) → linked_op (line_blocks op) (cases_in op) (op_of op) ≡ op
 op_again (Phi blocks) = ap Phi (places_again blocks [] blocks 0 refl refl)
 op_again (Br to) = refl
 op_again (CondBr first second) = refl
@@ -101,7 +101,7 @@ module _ (tops : Scope TopMeaning) (scope : Scope LocalMeaning) (base : ℕ) (ns
       ∙ ap (λ (xs : List Opd). Ok (record { opds = xs; blocks = (done.blocks ++ b ∷ []) ++ bs })) (append_assoc done.opds (o ∷ []) os)
       ∙ ap (λ (xs : List ℕ). Ok (record { opds = done.opds ++ o ∷ os; blocks = xs })) (append_assoc done.blocks (b ∷ []) bs)
 
-  linked_again : (n : ℕ) (op : Op) (os : List Opd) (s : Stmt) → s.args ≡ map (arg_of ns gs) os → s.labels ≡ map (shown_block ns) (line_blocks op) → All IsFoundOpd os → All IsFoundBlock (line_blocks op) → HasShape op os →
+  pub linked_again : (n : ℕ) (op : Op) (os : List Opd) (s : Stmt) → s.args ≡ map (arg_of ns gs) os → s.labels ≡ map (shown_block ns) (line_blocks op) → All IsFoundOpd os → All IsFoundBlock (line_blocks op) → HasShape op os →
       linked_by tops scope base n s (op_of op) ≡ Ok (record { opds = os; blocks = line_blocks op })
   linked_again n (Phi blocks) os s args labels opds found shape = rw (args, labels) (pairs_again n (record { opds = []; blocks = [] }) os blocks shape opds found)
   linked_again n (Call tail pre callee attrs post) os s args labels opds found shape = absurd shape
@@ -109,7 +109,7 @@ module _ (tops : Scope TopMeaning) (scope : Scope LocalMeaning) (base : ℕ) (ns
 
   -- ---- cases
 
-  case_again : (done : LinkedCases) (n : ℕ) (ty : Ty) (c : Option ℕ) (b : ℕ) → IsFoundBlock b →
+  pub case_again : (done : LinkedCases) (n : ℕ) (ty : Ty) (c : Option ℕ) (b : ℕ) → IsFoundBlock b →
       with_choice scope done (record { line = n; value = record { ty = ty; lanes = c ∷ [] }; label = shown_block ns b }) ≡ Ok (record { values = done.values ++ c ∷ []; to = done.to ++ b ∷ [] })
   unfolding with_choice
   case_again done n ty c b found = rw (found n) refl

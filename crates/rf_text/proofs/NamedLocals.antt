@@ -60,7 +60,7 @@ more_passed ns l os op rest n = (n, refl)
 
 module _ (base : ℕ) (scope : Scope LocalMeaning) (once : Once scope) where
   -- the next name is defined
-  name_defined : (ln : ℕ) (l : LocalNames) (name : List ℕ) (m : LocalMeaning) (at : LinePlace) (rest : Scope LocalMeaning) → scope ≡ l.scope ++ (name, m) ∷ rest →
+  pub name_defined : (ln : ℕ) (l : LocalNames) (name : List ℕ) (m : LocalMeaning) (at : LinePlace) (rest : Scope LocalMeaning) → scope ≡ l.scope ++ (name, m) ∷ rest →
       with_name ln l name m at ≡ Ok (record { scope = l.scope ++ (name, m) ∷ []; at = at })
   unfolding with_name
   name_defined ln l name m at rest whole = rw (defined ln of_function l.scope name m rest (rw whole at once)) refl
@@ -103,14 +103,14 @@ module _ (base : ℕ) (scope : Scope LocalMeaning) (once : Once scope) where
     stmt_silent ln n p b done s e = rw e refl
 
     -- behind an instruction that stands in an open block
-    record Stepped (rest : List Thing) (p b : ℕ) (s : Stmt) (said : Result LocalNames ResolveRefusal) : Type 0 where
-      done : Scope LocalMeaning
-      next : ℕ
-      said_is : said ≡ Ok (locals done next (p + 1) b (not (is_terminator s.op)))
-      whole : scope ≡ done ++ scope_from next (p + 1) b rest
-      known : Known base scope ns next (p + 1) b rest
+    pub record Stepped (rest : List Thing) (p b : ℕ) (s : Stmt) (said : Result LocalNames ResolveRefusal) : Type 0 where
+      pub done : Scope LocalMeaning
+      pub next : ℕ
+      pub said_is : said ≡ Ok (locals done next (p + 1) b (not (is_terminator s.op)))
+      pub whole : scope ≡ done ++ scope_from next (p + 1) b rest
+      pub known : Known base scope ns next (p + 1) b rest
 
-    inst_read : (v w : Bool) (i : Inst) (s : Stmt) → s.result ≡ result_of v w (shown_text (local_of i.id ns.locals)) → s.ty ≡ i.ty → (ln n p b : ℕ) (done : Scope LocalMeaning) (rest : List Thing) →
+    pub inst_read : (v w : Bool) (i : Inst) (s : Stmt) → s.result ≡ result_of v w (shown_text (local_of i.id ns.locals)) → s.ty ≡ i.ty → (ln n p b : ℕ) (done : Scope LocalMeaning) (rest : List Thing) →
         scope ≡ done ++ scope_from n p b (inst_thing v w i ∷ rest) → Known base scope ns n p b (inst_thing v w i ∷ rest) → Stepped rest p b s (with_stmt ln (locals done n p b true) s)
     inst_read false false i s e t ln n p b done rest whole known =
         let result : s.result ≡ Some (shown n i.name) = e ∙ ap (λ (l : Option Local). Some (shown_text l)) known.0.shows in
@@ -204,7 +204,7 @@ module _ (base : ℕ) (scope : Scope LocalMeaning) (once : Once scope) where
         pub said_is : said ≡ Ok end
         pub whole : end.scope ≡ scope
 
-      label_read : (ln n p b : ℕ) (o : Bool) (done rest : Scope LocalMeaning) (name : Option (List ℕ)) → Again n name → scope ≡ done ++ (shown n name, block_at b) ∷ rest →
+      pub label_read : (ln n p b : ℕ) (o : Bool) (done rest : Scope LocalMeaning) (name : Option (List ℕ)) → Again n name → scope ≡ done ++ (shown n name, block_at b) ∷ rest →
           with_label ln (locals done n p b o) (shown n name) ≡ Ok (locals (done ++ (shown n name, block_at b) ∷ []) (counted n name) p (b + 1) true)
       unfolding with_label behind_label
       label_read ln n p b o done rest name again whole = rw (again.next_again, name_defined ln (locals done n p b o) (shown n name) (block_at b) _ rest whole) refl

@@ -36,13 +36,13 @@ ids_behind (id ∷ ids) rest k q count at e =
     ids_behind ids rest (k + 1) q parts.0 (omega (arith, at)) parts.2
 
 -- each function is formed and plain, and stands where its ids say
-abbrev AllStand : Module → ℕ → List Item → Type 0
+abbrev pub AllStand : Module → ℕ → List Item → Type 0
 AllStand m base [] = Unit {0}
 AllStand m base (Kept text ∷ items) = IsPlainLine text × AllStand m base items
 AllStand m base (Opaque text ∷ items) = ⊥
 AllStand m base (FuncItem f ∷ items) = IsFormedFunc m f × IsPlainFunc f × Stands f base × AllStand m (base + length (item_ids (FuncItem f))) items
 
-all_stand : (m : Module) (items : List Item) (base count : ℕ) → All (IsFormedItem m) items → All IsPlainItem items → All IsCountedItem items → ids_of_items items ≡ ids_from base count → AllStand m base items
+pub all_stand : (m : Module) (items : List Item) (base count : ℕ) → All (IsFormedItem m) items → All IsPlainItem items → All IsCountedItem items → ids_of_items items ≡ ids_from base count → AllStand m base items
 all_stand m [] base count formed plain few ids = tt
 all_stand m (Kept text ∷ items) base count formed plain few ids =
     (All-head IsPlainItem (Kept text) items plain, all_stand m items base count (All-tail (IsFormedItem m) (Kept text) items formed) (All-tail IsPlainItem (Kept text) items plain) (All-tail IsCountedItem (Kept text) items few) ids)

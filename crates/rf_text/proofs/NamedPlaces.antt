@@ -65,7 +65,7 @@ ids_apart : (base p j : ℕ) → j < p → same_id (id_at base p) (id_at base j)
 ids_apart base p j less = grind (arith, nat_tests)
 
 -- no value behind has the id of an earlier place
-later : (base n p j : ℕ) (ts : List Thing) → j < p → Placed base p ts → (before : Option Local) → last_of (id_at base j) (locals_from n (named_things ts)) before ≡ before
+pub later : (base n p j : ℕ) (ts : List Thing) → j < p → Placed base p ts → (before : Option Local) → last_of (id_at base j) (locals_from n (named_things ts)) before ≡ before
 later base n p j [] less placed before = refl
 later base n p j (Gives id ty name ∷ ts) less placed before =
     let apart : same_id id (id_at base j) ≡ false = ap (λ (x : Id). same_id x (id_at base j)) placed.0 ∙ ids_apart base p j less in
@@ -83,7 +83,7 @@ last_here : (l : Local) (before : Option Local) → (if same_id l.id l.id then S
 last_here l before = rw (id_same l.id) refl
 
 -- a value is found by its id
-value_found : (base n p : ℕ) (ls : List Local) (l : Local) (ts : List Thing) → l.id ≡ id_at base p → Placed base (p + 1) ts → local_of l.id (ls ++ l ∷ locals_from n (named_things ts)) ≡ Some l
+pub value_found : (base n p : ℕ) (ls : List Local) (l : Local) (ts : List Thing) → l.id ≡ id_at base p → Placed base (p + 1) ts → local_of l.id (ls ++ l ∷ locals_from n (named_things ts)) ≡ Some l
 value_found base n p ls l ts is placed =
     let tail : last_of l.id (locals_from n (named_things ts)) (Some l) ≡ Some l =
     ap (λ (x : Id). last_of x (locals_from n (named_things ts)) (Some l)) is ∙ later base n (p + 1) p ts (omega arith) placed (Some l) in

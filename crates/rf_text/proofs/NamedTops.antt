@@ -27,12 +27,12 @@ use Rattle.rf_text.proofs.NamedFunction.{HasLocals}
 -- ---- the scope of a module
 
 -- what a kept line gives, where k is the number of the next global, and the number after it
-abbrev kept_scope : ℕ → Bool → Option (List ℕ) → Scope TopMeaning
+abbrev pub kept_scope : ℕ → Bool → Option (List ℕ) → Scope TopMeaning
 kept_scope k global None = []
 kept_scope k true (Some name) = (name, global_at k) ∷ []
 kept_scope k false (Some name) = (name, other_top) ∷ []
 
-abbrev kept_next : ℕ → Bool → Option (List ℕ) → ℕ
+abbrev pub kept_next : ℕ → Bool → Option (List ℕ) → ℕ
 kept_next k true (Some name) = k + 1
 kept_next k _ _ = k
 
@@ -81,18 +81,18 @@ module _ (scope : Scope TopMeaning) (once : Once scope) where
   -- ---- what is defined
 
   -- the globals that an item has
-  abbrev item_globals : Bool → Option (List ℕ) → List (List ℕ)
+  abbrev pub item_globals : Bool → Option (List ℕ) → List (List ℕ)
   item_globals g s = global_before g s []
 
   -- behind an item
-  record Stepped (t : TopNames) (k : ℕ) (more : List (List ℕ)) (rest : Scope TopMeaning) (said : Result TopNames ResolveRefusal) : Type 0 where
-    end : TopNames
-    said_is : said ≡ Ok end
-    whole : scope ≡ end.scope ++ rest
-    counted : length end.globals ≡ k
-    globals : end.globals ≡ t.globals ++ more
+  pub record Stepped (t : TopNames) (k : ℕ) (more : List (List ℕ)) (rest : Scope TopMeaning) (said : Result TopNames ResolveRefusal) : Type 0 where
+    pub end : TopNames
+    pub said_is : said ≡ Ok end
+    pub whole : scope ≡ end.scope ++ rest
+    pub counted : length end.globals ≡ k
+    pub globals : end.globals ≡ t.globals ++ more
 
-  top_defined : (n : ℕ) (t : TopNames) (name : List ℕ) (top : TopMeaning) (rest : Scope TopMeaning) → scope ≡ t.scope ++ (name, top) ∷ rest → with_top n t name top ≡ Ok (record { scope = t.scope ++ (name, top) ∷ []; globals = t.globals })
+  pub top_defined : (n : ℕ) (t : TopNames) (name : List ℕ) (top : TopMeaning) (rest : Scope TopMeaning) → scope ≡ t.scope ++ (name, top) ∷ rest → with_top n t name top ≡ Ok (record { scope = t.scope ++ (name, top) ∷ []; globals = t.globals })
   unfolding with_top
   top_defined n t name top rest whole = rw (defined n of_module t.scope name top rest (rw whole at once)) refl
 
@@ -101,7 +101,7 @@ module _ (scope : Scope TopMeaning) (once : Once scope) where
   unfolding with_global
   global_defined n t name k rest many whole = rw (many, defined n of_module t.scope name (global_at k) rest (rw whole at once)) refl
 
-  kept_defined : (g : Bool) (s : Option (List ℕ)) (n k : ℕ) (t : TopNames) (rest : Scope TopMeaning) → length t.globals ≡ k → scope ≡ t.scope ++ (kept_scope k g s ++ rest) → Stepped t (kept_next k g s) (item_globals g s) rest (with_symbol n t g s)
+  pub kept_defined : (g : Bool) (s : Option (List ℕ)) (n k : ℕ) (t : TopNames) (rest : Scope TopMeaning) → length t.globals ≡ k → scope ≡ t.scope ++ (kept_scope k g s ++ rest) → Stepped t (kept_next k g s) (item_globals g s) rest (with_symbol n t g s)
   kept_defined true None n k t rest many whole = record { end = t; said_is = refl; whole = whole; counted = many; globals = sym (append-nil t.globals) }
   kept_defined false None n k t rest many whole = record { end = t; said_is = refl; whole = whole; counted = many; globals = sym (append-nil t.globals) }
   kept_defined true (Some name) n k t rest many whole = record {
@@ -153,7 +153,7 @@ module _ (scope : Scope TopMeaning) (once : Once scope) where
     pub whole : end.scope ≡ scope
     pub globals_are : end.globals ≡ globals
 
-  globals_append : (g : Bool) (s : Option (List ℕ)) (rest : List (List ℕ)) → item_globals g s ++ rest ≡ global_before g s rest
+  pub globals_append : (g : Bool) (s : Option (List ℕ)) (rest : List (List ℕ)) → item_globals g s ++ rest ≡ global_before g s rest
   globals_append true None rest = refl
   globals_append true (Some name) rest = refl
   globals_append false s rest = refl

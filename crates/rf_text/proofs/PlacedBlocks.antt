@@ -37,7 +37,7 @@ abbrev pub AreFitting : List (List ℕ) → List (List ℕ) → ℕ → List Blo
 AreFitting names gs number [] = Unit {0}
 AreFitting names gs number (b ∷ bs) = IsFittingBlock names gs number b × AreFitting names gs (number + 1) bs
 
-label_stands : (line n insts blocks : ℕ) (name : Option (List ℕ)) → is_plain name ≡ true → n < 2 ^ 64 → after_label line (place n insts blocks no_block) (shown n name) ≡ Ok (place (counted n name) insts (blocks + 1) front)
+pub label_stands : (line n insts blocks : ℕ) (name : Option (List ℕ)) → is_plain name ≡ true → n < 2 ^ 64 → after_label line (place n insts blocks no_block) (shown n name) ≡ Ok (place (counted n name) insts (blocks + 1) front)
 unfolding after_label
 label_stands line n insts blocks name plain small = rw (name_taken line n name plain small) refl
 
@@ -156,7 +156,7 @@ pub record IsFittingFunc (names gs : List (List ℕ)) (f : Func) : Type 0 where
   pub apart : Apart (map (λ (p : Param). p.id) f.params ++ block_ids f.blocks)
   pub small : length (named_of f) < 2 ^ 64
 
-all_ahead : (f : Func) → Apart (map (λ (p : Param). p.id) f.params ++ block_ids f.blocks) → length (named_of f) < 2 ^ 64 → Ahead (names_of f) 0 0 (named_of f)
+pub all_ahead : (f : Func) → Apart (map (λ (p : Param). p.id) f.params ++ block_ids f.blocks) → length (named_of f) < 2 ^ 64 → Ahead (names_of f) 0 0 (named_of f)
 all_ahead f apart small = record {
   past = [];
   locals = refl;

@@ -135,7 +135,7 @@ pub record ResultTaken (ns : Names) (line at n : ℕ) (result : Option (List ℕ
   pub taken : after_result line n result ≡ Ok next
   pub ahead : Ahead ns at next vs
 
-result_taken : (ns : Names) (line at n : ℕ) (i : Inst) (vs : List Named) (void store : Bool) → is_plain i.name ≡ true → Ahead ns at n (result_named void store i vs) →
+pub result_taken : (ns : Names) (line at n : ℕ) (i : Inst) (vs : List Named) (void store : Bool) → is_plain i.name ≡ true → Ahead ns at n (result_named void store i vs) →
     ResultTaken ns line at n (result_of void store (shown_text (local_of i.id ns.locals))) vs
 result_taken ns line at n i vs false false named ahead =
     let found : local_of i.id ns.locals ≡ Some (record { id = i.id; ty = i.ty; text = shown n i.name }) = value_found ns at n i.id i.ty i.name vs ahead in
@@ -151,7 +151,7 @@ module _ (names : List (List ℕ)) (ns : Names) (gs : List (List ℕ)) where
   stmt_stands before line n next insts number i fits phis taken =
       rw (no_foreign before n insts number i.op fits.other fits.allocas, none_barred names ns gs i.opds fits.free, may_stand_in before i.op phis, opened_in before n insts (number + 1), taken) refl
 
-  inst_stands : (before : Bool) (line n next insts number : ℕ) (i : Inst) → IsFitting names gs number i → (is_phi i.op ≡ true → before ≡ true) → after_result line n (stmt_of ns gs i).result ≡ Ok next →
+  pub inst_stands : (before : Bool) (line n next insts number : ℕ) (i : Inst) → IsFitting names gs number i → (is_phi i.op ≡ true → before ≡ true) → after_result line n (stmt_of ns gs i).result ≡ Ok next →
       body_lines names line (place n insts (number + 1) (opening before)) (forms_of ns gs i) ≡ Ok (place next (insts + 1) (number + 1) (opening_behind (is_terminator i.op) (before && is_phi i.op)))
   inst_stands before line n next insts number i fits phis taken =
       ap (λ (r : Result Place ReadRefusal). r >>= (λ q. body_lines names (line + 1) q (more_forms ns i.opds i.op))) (stmt_stands before line n next insts number i fits phis taken)

@@ -24,11 +24,11 @@ use Rattle.rf_text.proofs.PlacedBlocks.{BodyStands, LinesStand}
 
 -- ---- lines of an open function
 
-abbrev made : ℕ → Head → List Numbered → Place → OpenFunction
+abbrev pub made : ℕ → Head → List Numbered → Place → OpenFunction
 made line head body at = record { line = line; head = head; body = body; at = at }
 
 -- the function with lines of these forms
-abbrev with_lines : OpenFunction → ℕ → List Line → Place → OpenFunction
+abbrev pub with_lines : OpenFunction → ℕ → List Line → Place → OpenFunction
 with_lines o n fs p = made o.line o.head (o.body ++ numbered_from n fs) p
 
 same_open : (line : ℕ) (head : Head) (b c : List Numbered) (p q : Place) → b ≡ c → p ≡ q → made line head b p ≡ made line head c q
@@ -44,7 +44,7 @@ next_line : (n k : ℕ) → n + 1 + k ≡ n + suc k
 next_line n k = omega arith
 
 -- what is read of lines behind others, when those have been read
-abbrev Goes : Known → Read → List Line → List Line → Place → ℕ → OpenFunction → Type 0
+abbrev pub Goes : Known → Read → List Line → List Line → Place → ℕ → OpenFunction → Type 0
 Goes known done fs rest p n o = items_from known n (going_on done o) (map Some (fs ++ rest)) ≡ items_from known (n + length fs) (going_on done (with_lines o n fs p)) (map Some rest)
 
 -- a line that is added to the function
@@ -64,7 +64,7 @@ line_added known n done o f fs rest p same put number e next =
           ∙ ap (λ (a : OpenFunction). items_from known (n + suc (length fs)) (going_on done a) (map Some rest)) (with_more o n f fs q p number)
       here (Err refusal) e = cc
 
-body_read : (known : Known) (n : ℕ) (done : Read) (o : OpenFunction) (fs rest : List Line) (p : Place) → body_lines known.names n o.at fs ≡ Ok p → Goes known done fs rest p n o
+pub body_read : (known : Known) (n : ℕ) (done : Read) (o : OpenFunction) (fs rest : List Line) (p : Place) → body_lines known.names n o.at fs ≡ Ok p → Goes known done fs rest p n o
 unfolding line_inside
 body_read known n done o [] rest p e =
     let at : o.at ≡ p = cc in
@@ -98,18 +98,18 @@ header_read : (known : Known) (n : ℕ) (done : Read) (head : Head) (next : ℕ)
 unfolding header_line opened_by
 header_read known n done head next other params = rw (other, params) refl
 
-head_read : (known : Known) (n : ℕ) (done : Read) (name : Option (List ℕ)) (head : Head) (next : ℕ) (fs : List Line) → known.other_pointers ≡ false → after_params n 0 head.params ≡ Ok next →
+pub head_read : (known : Known) (n : ℕ) (done : Read) (name : Option (List ℕ)) (head : Head) (next : ℕ) (fs : List Line) → known.other_pointers ≡ false → after_params n 0 head.params ≡ Ok next →
     items_from known n (between done) (map Some (form.Define name (Some head) ∷ fs)) ≡ items_from known (n + 1) (going_on done (made n head [] (start next))) (map Some fs)
 head_read known n done name head next fs other params =
     ap (λ (r : Result Reading ReadRefusal). r >>= (λ after. items_from known (n + 1) after (map Some fs))) (header_read known n done head next other params)
 
 -- the brace closes it
-close_read : (known : Known) (n : ℕ) (done : Read) (line : ℕ) (head : Head) (body : List Numbered) (next insts blocks : ℕ) (fs : List Line) → nat_eq blocks 0 ≡ false →
+pub close_read : (known : Known) (n : ℕ) (done : Read) (line : ℕ) (head : Head) (body : List Numbered) (next insts blocks : ℕ) (fs : List Line) → nat_eq blocks 0 ≡ false →
     items_from known n (going_on done (made line head body (place next insts blocks no_block))) (map Some (form.Close ∷ fs)) ≡ items_from known (n + 1) (between (closed done (made line head body (place next insts blocks no_block)))) (map Some fs)
 unfolding line_inside at_close
 close_read known n done line head body next insts blocks fs some = rw some refl
 
-closed_items : (done : Read) (o : OpenFunction) → (closed done o).items ≡ done.items ++ draft.Func o.line o.head o.body ∷ []
+pub closed_items : (done : Read) (o : OpenFunction) → (closed done o).items ≡ done.items ++ draft.Func o.line o.head o.body ∷ []
 unfolding closed
 closed_items done o = refl
 

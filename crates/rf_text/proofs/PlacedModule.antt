@@ -72,7 +72,7 @@ module _ (known : Known) (gs : List (List ℕ)) where
 
 -- ---- what is formed and printable fits
 
-free_of : (m : Module) (o : Opd) → IsAllowed m o → IsFree (barred_in (module_forms m)) m.globals o
+pub free_of : (m : Module) (o : Opd) → IsAllowed m o → IsFree (barred_in (module_forms m)) m.globals o
 free_of m (Val id) h = h
 free_of m (Lit literal) h = h
 free_of m (Sym g) h = h
@@ -141,7 +141,7 @@ module _ (m : Module) (known : Known) (free : (o : Opd) → IsAllowed m o → Is
   function_behind (Opaque text) is h = h
   function_behind (FuncItem f) is h = refl
 
-  items_fit : (is : List Item) → All (IsFormedItem m) is → All IsPlainItem is → All (IsAllowedItem m) is → All IsCountedItem is → Apart (ids_of_items is) → (has_function is ≡ true → known.other_pointers ≡ false) → AreFittingItems known m.globals is
+  pub items_fit : (is : List Item) → All (IsFormedItem m) is → All IsPlainItem is → All (IsAllowedItem m) is → All IsCountedItem is → Apart (ids_of_items is) → (has_function is ≡ true → known.other_pointers ≡ false) → AreFittingItems known m.globals is
   items_fit [] formed plain allowed counted apart pointers = tt
   items_fit (i ∷ is) formed plain allowed counted apart pointers = (
     item_fits i is (All-head (IsFormedItem m) i is formed) (All-head IsPlainItem i is plain) (All-head (IsAllowedItem m) i is allowed) (All-head IsCountedItem i is counted) (apart_front (item_ids i) (ids_of_items is) apart) pointers,

@@ -44,7 +44,7 @@ module _ (ns : Names) (gs : List (List ℕ)) where
   more_silent os (Switch other cases to) = passed (cases_of ns (first_ty ns os) cases to) (line.CasesEnd ∷ []) (cases_silent (first_ty ns os) cases to)
   more_silent os _ = refl
 
-  insts_silent : (is : List Inst) → publics (insts_forms ns gs is) ≡ []
+  pub insts_silent : (is : List Inst) → publics (insts_forms ns gs is) ≡ []
   insts_silent [] = refl
   insts_silent (i ∷ is) = passed (more_forms ns i.opds i.op) (insts_forms ns gs is) (more_silent i.opds i.op) ∙ insts_silent is
 

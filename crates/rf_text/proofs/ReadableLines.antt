@@ -106,7 +106,7 @@ three a b c p q r = All-cons PoisonArg a (b ∷ c ∷ []) p (two b c q r)
 -- ---- forms
 
 -- whether an operation has a result, calls aside
-abbrev has_result : Op → Bool
+abbrev pub has_result : Op → Bool
 has_result (ops.Store align) = false
 has_result ops.Ret = false
 has_result (ops.Br to) = false
@@ -125,7 +125,7 @@ IsPlainForm (lines.Label name) = is_local_name name ≡ true
 IsPlainForm (lines.Stmt s) = IsPlainStmt s
 IsPlainForm _ = Unit {0}
 
-no : {P : Type 0} → true ≡ false → P
+pub no : {P : Type 0} → true ≡ false → P
 no e = cc
 
 plain_form : (f : Form) (ts : Words) → AreWords ts → Spell (slots f) ts → IsPlainForm (line_of f)
@@ -178,7 +178,7 @@ stored_real Void h = cc
 stored_real t h = refl
 
 -- what has a result gives a value
-result_real : (op : Op) (t : Ty) (tys : List (Option Ty)) → (IsCallOp op → ⊥) → has_result op ≡ true → IsSoundOp op t tys → is_void t ≡ false
+pub result_real : (op : Op) (t : Ty) (tys : List (Option Ty)) → (IsCallOp op → ⊥) → has_result op ≡ true → IsSoundOp op t tys → is_void t ≡ false
 result_real (ops.Bin op flags) t tys c r h = number_real t h.0
 result_real (ops.Icmp pred) t tys c r h = ap is_void h.2 ∙ truth_real h.0 h.1
 result_real (ops.Cast op nneg) t tys c r h = number_real t h.2
@@ -198,7 +198,7 @@ result_real (ops.CondBr first second) t tys c r h = cc
 result_real (ops.Switch other cases to) t tys c r h = cc
 result_real ops.Unreachable t tys c r h = cc
 
-result_no_store : (op : Op) → has_result op ≡ true → is_store op ≡ false
+pub result_no_store : (op : Op) → has_result op ≡ true → is_store op ≡ false
 result_no_store (ops.Store align) h = cc
 result_no_store _ h = refl
 

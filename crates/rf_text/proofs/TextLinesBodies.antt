@@ -21,11 +21,10 @@ use Rattle.ir_print.specs.Text.{blocks_text, func_text}
 use Rattle.ir_read.specs.Forms.{form_in, inside_after, forms_from}
 use Rattle.rf_text.specs.Headed.{HeaderAgain, header_line, first_name, shown_head}
 use Rattle.rf_text.specs.LinesOf.{joined}
-use Rattle.rf_text.specs.ModuleForms.{func_forms}
-use Rattle.rf_text.specs.ModuleForms as module_forms
+use Rattle.rf_text.specs.ModuleForms.{label_forms, insts_forms, more_blocks_forms, blocks_forms, func_forms}
 use Rattle.rf_text.specs.Printable.{IsPlainInst, IsPlainFunc}
 use Rattle.rf_text.specs.Printed.{Printed, IsReadAgain}
-use Rattle.rf_text.specs.Written.{cases_of, first_ty, more_forms, forms_of, insts_forms, label_forms, next_forms, more_block_forms, body_forms}
+use Rattle.rf_text.specs.Written.{cases_of, first_ty, more_forms, forms_of}
 use Rattle.rf_text.proofs.HeadsAgain.{header_again}
 use Rattle.rf_text.proofs.Insts.{heads, tails, none_more, too_few}
 use Rattle.rf_text.proofs.InstsAll.{inst_printed}
@@ -72,37 +71,17 @@ module _ (ns : Names) (gs : List (List ℕ)) where
   insts_keep [] = refl
   insts_keep (i ∷ is) = keep_both (forms_of ns gs i) (insts_forms ns gs is) (more_keep ns i.opds i.op) (insts_keep is)
 
-  more_blocks_keep : (at : ℕ) (bs : List Block) → Keep (more_block_forms ns gs at bs)
+  more_blocks_keep : (at : ℕ) (bs : List Block) → Keep (more_blocks_forms ns gs at bs)
   more_blocks_keep at [] = refl
   more_blocks_keep at (b ∷ bs) =
-      keep_both (next_forms ns gs at b) (more_block_forms ns gs (at + 1) bs)
-      (keep_both (label_forms (slice_get ns.labels at)) (insts_forms ns gs b.insts) (label_keep (slice_get ns.labels at)) (insts_keep b.insts)) (more_blocks_keep (at + 1) bs)
+      keep_both (label_forms (slice_get ns.labels at)) (insts_forms ns gs b.insts ++ more_blocks_forms ns gs (at + 1) bs) (label_keep (slice_get ns.labels at))
+      (keep_both (insts_forms ns gs b.insts) (more_blocks_forms ns gs (at + 1) bs) (insts_keep b.insts) (more_blocks_keep (at + 1) bs))
 
-  body_keep : (bs : List Block) → Keep (body_forms ns gs bs)
+  body_keep : (bs : List Block) → Keep (blocks_forms ns gs bs)
   body_keep [] = refl
   body_keep (b ∷ bs) =
-      keep_both (label_forms b.name) (insts_forms ns gs b.insts ++ more_block_forms ns gs 1 bs) (label_keep b.name)
-      (keep_both (insts_forms ns gs b.insts) (more_block_forms ns gs 1 bs) (insts_keep b.insts) (more_blocks_keep 1 bs))
-
-  -- the two ways to write the forms of a body are one
-  same_insts : (is : List Inst) → insts_forms ns gs is ≡ module_forms.insts_forms ns gs is
-  same_insts [] = refl
-  same_insts (i ∷ is) = ap (λ (x : List Line). forms_of ns gs i ++ x) (same_insts is)
-
-  same_label : (name : Option (List ℕ)) → label_forms name ≡ module_forms.label_forms name
-  same_label None = refl
-  same_label (Some name) = refl
-
-  same_more : (at : ℕ) (bs : List Block) → more_block_forms ns gs at bs ≡ module_forms.more_blocks_forms ns gs at bs
-  same_more at [] = refl
-  same_more at (b ∷ bs) =
-      ap (λ (x : List Line). line.Empty ∷ x)
-      (append_assoc (label_forms (slice_get ns.labels at)) (insts_forms ns gs b.insts) (more_block_forms ns gs (at + 1) bs)
-      ∙ rw (same_label (slice_get ns.labels at), same_insts b.insts, same_more (at + 1) bs) refl)
-
-  same_body : (bs : List Block) → body_forms ns gs bs ≡ module_forms.blocks_forms ns gs bs
-  same_body [] = refl
-  same_body (b ∷ bs) = rw (same_label b.name, same_insts b.insts, same_more 1 bs) refl
+      keep_both (label_forms b.name) (insts_forms ns gs b.insts ++ more_blocks_forms ns gs 1 bs) (label_keep b.name)
+      (keep_both (insts_forms ns gs b.insts) (more_blocks_forms ns gs 1 bs) (insts_keep b.insts) (more_blocks_keep 1 bs))
 
 -- ---- lines of a body are read as they are where they stand in a function
 
@@ -133,20 +112,19 @@ module _ (m : Module) (f : Func) (formed : IsFormedFunc m f) (plain : IsPlainFun
       again n k (slice_index_or f.blocks n d) (slice_index_or (slice_index_or f.blocks n d).insts k e) (slice_get-get_or f.blocks n d among)
       (slice_get-get_or (slice_index_or f.blocks n d).insts k e among2) ((plain.blocks n d among).insts k e among2)
 
-  body_again : Printed (blocks_text (names_of f) m.globals f.blocks ++ codes "}\n") (body_forms (names_of f) m.globals f.blocks ++ line.Close ∷ [])
+  body_again : Printed (blocks_text (names_of f) m.globals f.blocks ++ codes "}\n") (blocks_forms (names_of f) m.globals f.blocks ++ line.Close ∷ [])
   body_again = body_printed (names_of f) m.globals (func_shown f m.globals plain few globals).labels f.blocks (labels_written f.blocks plain.blocks) insts_again
 
   pub func_spoken : Spoken (func_text m.globals f) (func_forms m.globals f)
   func_spoken =
       let ns : Names = names_of f in
       let head : HeaderAgain ns f = header_again ns f (func_headed f plain few) in
-      let p : Printed (blocks_text ns m.globals f.blocks ++ codes "}\n") (body_forms ns m.globals f.blocks ++ line.Close ∷ []) = body_again in
+      let p : Printed (blocks_text ns m.globals f.blocks ++ codes "}\n") (blocks_forms ns m.globals f.blocks ++ line.Close ∷ []) = body_again in
       let first : Line = line.Define (first_name f) (Some (shown_head ns f)) in
       record {
         lines = header_line ns f ∷ p.lines;
         whole = ap (λ (x : List ℕ). x ++ (blocks_text ns m.globals f.blocks ++ codes "}\n")) head.text
             ∙ ap (λ (x : List ℕ). (header_line ns f ++ codes "\n") ++ x) p.whole ∙ append_assoc (header_line ns f) (codes "\n") (joined p.lines);
         each = λ rest. ap (λ (o : Option Line). o ∷ forms_from (inside_after false o) (p.lines ++ rest)) head.form
-            ∙ ap (λ (x : List (Option Line)). Some first ∷ x) (within (body_forms ns m.globals f.blocks) p.lines rest (body_keep ns m.globals f.blocks) p.each)
-            ∙ ap (λ (body : List Line). Some first ∷ (map Some (body ++ line.Close ∷ []) ++ forms_from false rest)) (same_body ns m.globals f.blocks);
+            ∙ ap (λ (x : List (Option Line)). Some first ∷ x) (within (blocks_forms ns m.globals f.blocks) p.lines rest (body_keep ns m.globals f.blocks) p.each);
       }

@@ -12,5 +12,7 @@ pub mod Readable
 pub mod Reads
 pub mod Renumbered
 pub mod Shown
+pub mod Spelled
+pub mod Spells
 pub mod TextLines
 pub mod Written

@@ -14,7 +14,8 @@ use Rattle.ir_print.specs.Text.{label_line, blocks_text}
 use Rattle.ir_read.specs.Forms.{form_in}
 use Rattle.rf_text.specs.Shown.{IsLocalName, Shown, Fits}
 use Rattle.rf_text.specs.LinesOf.{joined}
-use Rattle.rf_text.specs.Written.{forms_of, body_forms}
+use Rattle.rf_text.specs.Written.{forms_of}
+use Rattle.rf_text.specs.ModuleForms.{blocks_forms}
 
 -- the text is lines, of which each is read inside a function as its form; so none has a lexical fault
 pub record Printed (text : List ℕ) (forms : List Line) : Type 0 where
@@ -49,4 +50,4 @@ IsShownLabel (Some name) = IsLocalName name
 -- where each instruction is read again, so is the body of the function with its brace
 abbrev pub BodiesAreReadAgain : Type 0
 BodiesAreReadAgain = (ns : Names) (gs : List (List ℕ)) (blocks : List Block) → All IsLocalName ns.labels → All (λ (b : Block). IsShownLabel b.name) blocks → All (λ (b : Block). All (IsReadAgain ns gs) b.insts) blocks →
-    Printed (blocks_text ns gs blocks ++ codes "}\n") (body_forms ns gs blocks ++ Close ∷ [])
+    Printed (blocks_text ns gs blocks ++ codes "}\n") (blocks_forms ns gs blocks ++ Close ∷ [])

@@ -11,13 +11,12 @@ use Rattle.ir_types.specs.declared.opd.Opd.TheVariants.{Val, Lit as LitOpd, Sym}
 use Rattle.ir_types.specs.declared.op.Op.{Op}
 use Rattle.ir_types.specs.declared.op.Op.TheVariants.{Load, Phi, Br, CondBr, Switch}
 use Rattle.ir_types.specs.declared.inst.Inst.{Inst}
-use Rattle.ir_types.specs.declared.func.Block.{Block}
 use Rattle.ir_line.specs.declared.written.Written.{Written}
 use Rattle.ir_line.specs.declared.written.Written.TheVariants.{Local, Symbol, Lit}
 use Rattle.ir_line.specs.declared.written.Arg.{Arg}
 use Rattle.ir_line.specs.declared.stmt.Stmt.{Stmt}
 use Rattle.ir_line.specs.declared.line.Line.{Line}
-use Rattle.ir_line.specs.declared.line.Line.TheVariants.{Empty, Label, Stmt as StmtLine, Case, CasesEnd}
+use Rattle.ir_line.specs.declared.line.Line.TheVariants.{Stmt as StmtLine, Case, CasesEnd}
 use Rattle.ir_print.specs.declared.names.Local.{Local as ShownLocal}
 use Rattle.ir_print.specs.Names.{Names, local_of, is_store, is_void}
 use Rattle.ir_print.specs.Operands.{opd_ty}
@@ -95,29 +94,6 @@ more_forms ns os op = []
 -- the forms of the lines of an instruction
 abbrev pub forms_of : Names → List (List ℕ) → Inst → List Line
 forms_of ns gs i = StmtLine (stmt_of ns gs i) ∷ more_forms ns i.opds i.op
-
--- the lines of a function's body
-
-abbrev pub insts_forms : Names → List (List ℕ) → List Inst → List Line
-insts_forms ns gs [] = []
-insts_forms ns gs (i ∷ is) = forms_of ns gs i ++ insts_forms ns gs is
-
-abbrev pub label_forms : Option (List ℕ) → List Line
-label_forms None = []
-label_forms (Some name) = Label name ∷ []
-
--- a block behind another: an empty line, its label, its instructions
-abbrev pub next_forms : Names → List (List ℕ) → ℕ → Block → List Line
-next_forms ns gs at b = Empty ∷ label_forms (slice_get ns.labels at) ++ insts_forms ns gs b.insts
-
-abbrev pub more_block_forms : Names → List (List ℕ) → ℕ → List Block → List Line
-more_block_forms ns gs at [] = []
-more_block_forms ns gs at (b ∷ bs) = next_forms ns gs at b ++ more_block_forms ns gs (at + 1) bs
-
--- the blocks; the first shows its label only where that is written
-abbrev pub body_forms : Names → List (List ℕ) → List Block → List Line
-body_forms ns gs [] = []
-body_forms ns gs (b ∷ bs) = label_forms b.name ++ (insts_forms ns gs b.insts ++ more_block_forms ns gs 1 bs)
 
 -- examples: in a function with the pointer `%p`, the number `%0` and the blocks `a` and `1`, the value `%x` is loaded and switched on
 ids : ℕ → Id

@@ -10,6 +10,7 @@ mod named_items;
 mod outside;
 mod placed_forms;
 mod readable;
+mod spelled;
 mod text_lines;
 
 pub use again::texts_are_read_again;
@@ -21,4 +22,5 @@ pub use outside::{
 };
 pub use placed_forms::forms_are_placed;
 pub use readable::{read_modules_are_numbered, read_modules_are_printable};
+pub use spelled::{accepted_texts_spell, one_spelled_module, spelled_texts_read};
 pub use text_lines::texts_are_lines;

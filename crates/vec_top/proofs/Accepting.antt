@@ -23,6 +23,7 @@ use Rattle.ir_read.proofs.ItemsRead.{draft_items}
 use Rattle.ir_types_check.proofs.NamesHold.{names_hold}
 use Rattle.rf_formed.proofs.AcceptedModules.{formed, numbered}
 use Rattle.rf_text.proofs.ReadableModule.{read_back}
+use Rattle.rf_text.proofs.SpelledModule.{texts_spell}
 use Rattle.vec_top.specs.declared.cause.Cause.{Cause}
 use Rattle.vec_top.specs.declared.cause.Cause.TheVariants.{Lex, NotALine, Misplaced, Passes, TwiceDefined, Unknown, IllTyped, NotAvailable, BigEndian}
 use Rattle.vec_top.specs.declared.fault.Fault.{Fault}
@@ -107,6 +108,7 @@ pub ordered : (bytes : List ℕ) (r : Resolved) (answer : Result Module Fault) �
 ordered bytes r (Ok m) resolves fine o =
     subst (λ n. Accepts bytes n) (sym o.0) (record {
       reads = record { items = resolves.draft.items; says = draft_items bytes resolves.draft resolves.drafted; named = names_hold resolves.draft r resolves.resolved };
+      spelled = texts_spell bytes resolves.draft r resolves.drafted resolves.resolved o.1;
       lines = r.lines;
       resolves = resolves;
       formed = formed bytes resolves.draft r resolves.drafted resolves.resolved fine;

@@ -23,6 +23,7 @@ use Rattle.ir_types_check.specs.declared.refusal.ResolveRefusal.TheVariants as u
 use Rattle.ir_types_check.specs.declared.resolved.Resolved.{Resolved}
 use Rattle.ir_types_check.specs.Resolved.{resolved_of}
 use Rattle.rf_text.specs.Reads.{Reads}
+use Rattle.rf_text.specs.Spelled.{Spelled}
 use Rattle.vec_top.specs.declared.cause.Cause.{Cause}
 use Rattle.vec_top.specs.declared.cause.Cause.TheVariants.{Lex, NotALine, Misplaced, Passes, TwiceDefined, Unknown, IllTyped, NotAvailable, BigEndian}
 
@@ -36,6 +37,8 @@ pub record Resolves (bytes : List ℕ) (r : Resolved) : Type 0 where
 pub record Accepts (bytes : List ℕ) (m : Module) : Type 0 where
   -- it reads as the module
   pub reads : Reads bytes m
+  -- each line spells what the module has there
+  pub spelled : Spelled bytes m
   -- it is within the limits, and well typed
   pub lines : List ℕ
   pub resolves : Resolves bytes (record { «module» = m; lines = lines })
