@@ -27,7 +27,7 @@ use Rattle.ir_read.specs.Lines.{lines_of}
 use Rattle.rf_text.specs.Headed.{first_name}
 use Rattle.rf_text.specs.Written.{shown_text, shown_block}
 use Rattle.rf_text.specs.ModuleForms.{insts_forms, kept_at}
-use Rattle.rf_text.specs.Printable.{IsPrintable, IsNumbered}
+use Rattle.rf_text.specs.Printable.{IsPrintable, IsNumbered, IsCounted}
 
 -- ---- the lines of a text
 
@@ -102,6 +102,8 @@ pub record Spelled (bytes : List ℕ) (m : Module) : Type 0 where
   -- whose names are such as text can have, each given once, and whose ids are 0, 1 and so on
   pub printable : IsPrintable m
   pub numbered : IsNumbered m
+  -- each function has no more values and blocks than 64 bits can number
+  pub counted : IsCounted m
 
 -- ---- an example: a function with one parameter and one block, both without a name
 
