@@ -93,7 +93,7 @@ ROWS = [
     ("the items that a text is", "Its lines have forms, and each stands where it may; limits aside.", "ir_read/specs/Items.antt", "IsItems", None),
     ("what the items' names stand for", "No name is defined twice, each is known, and what they stand for makes the module.", "ir_types_check/specs/Named.antt", "Names", None),
     ("a text reads as a module", "Both of these.", "rf_text/specs/Reads.antt", "Reads", None),
-    ("a text spells a module", "Each line of the text has the form that the module has there, with the module's own names in the place of ids; names are such as text can have, each given once, and ids count from 0. One file, of lines and names alone.", "rf_text/specs/Spelled.antt", "Spelled", "Module Structure"),
+    ("a text spells a module", "Each line has the form that the module has there, with its own names in the place of ids. A formed module that a text spells is the one that it reads as.", "rf_text/specs/Spelled.antt", "Spelled", None),
     ("a module that can be printed and read again", "Names are plain and each given once, kept parts lex alone, globals are those of the kept lines.", "rf_text/specs/Printable.antt", "IsPrintable", None),
     ("ids given anew", "0, 1 and so on over parameters and instructions in order of the text.", "rf_text/specs/Renumbered.antt", "renumbered", None),
     ("what is printed is read again", "The text of the module reads as it, with its ids given anew, and that is formed.", "rf_text/specs/Again.antt", "IsReadAgain", None),

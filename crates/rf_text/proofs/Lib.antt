@@ -50,6 +50,7 @@ pub mod ReadableModule
 pub mod ReadableNames
 pub mod Renumbering
 pub mod SpelledBuilt
+pub mod SpelledCounts
 pub mod SpelledForms
 pub mod SpelledInsts
 pub mod SpelledLines

@@ -1,5 +1,5 @@
 -- A function that was read, whose names are known and whose lines are well typed: its lines are those that the function has.
-use Rattle.std.proofs.Common.{◌≡◌, ℕ, ◌+◌, inl, inr, Bool, true, false, not, List, [], ◌∷◌, ◌++◌, length, map, Option, Some, None, Ok, refl, sym, ◌∙◌, ap, subst, arith}
+use Rattle.std.proofs.Common.{◌≡◌, ℕ, ◌≤◌, suc, ◌+◌, inl, inr, Bool, true, false, not, List, [], ◌∷◌, ◌++◌, length, map, Option, Some, None, Ok, refl, sym, ◌∙◌, ap, subst, arith}
 use Rattle.std.specs.Prelude.{slice_get, unwrap_or}
 use Rattle.std.specs.List.{All, AllZip, list_all}
 use Rattle.std.proofs.lemmas.List.Elements.{All-head, All-tail}
@@ -12,7 +12,7 @@ use Rattle.ir_line.specs.declared.head.Head.{Head}
 use Rattle.ir_line.specs.declared.line.Line.{Line}
 use Rattle.ir_line.specs.declared.line.Line.TheVariants as line
 use Rattle.ir_line.specs.declared.draft.Numbered.{Numbered}
-use Rattle.ir_print.specs.Names.{Names, names_of, named_of, locals_from, labels_from, local_of, shown, is_store, is_void}
+use Rattle.ir_print.specs.Names.{Names, Named, names_of, named_of, params_named as named_params, blocks_named, locals_from, labels_from, local_of, shown, is_store, is_void}
 use Rattle.ir_types_check.specs.Answers.{well_typed}
 use Rattle.ir_types_check.specs.Scope.{Scope, meaning}
 use Rattle.ir_types_check.specs.Outline.{start, behind, block_here, written, written_name, after_name, after_result, after_param}
@@ -30,7 +30,8 @@ use Rattle.rf_text.proofs.NamedPlaces.{id_at, Placed}
 use Rattle.rf_text.proofs.NamedThings.{Thing, inst_thing, params_things, named_things, things_are, scope_from}
 use Rattle.rf_text.proofs.SpelledForms.{IsGoodLine}
 use Rattle.rf_text.proofs.SpelledOrder.{here, is_switch, IsNextResult, Stands, next_behind, open_behind, choosing_behind, InOrder, ParamsInOrder, behind_params, IsGood, IsOrdered, form_of}
-use Rattle.rf_text.proofs.SpelledMarks.{SayMarks, blocks_say}
+use Rattle.rf_text.proofs.SpelledCounts.{stmt_in, label_in, stmts, labels}
+use Rattle.rf_text.proofs.SpelledMarks.{SayMarks, blocks_say, many, starts, marks_named, blocks_are, named_most}
 use Rattle.rf_text.proofs.SpelledBuilt.{Mark, Starts, Does, marks, marks_things, things_same, opening, LineBuilt, AreBuilt, IsBuilt, lines_built}
 use Rattle.rf_text.proofs.SpelledScope.{IsInst, inst_is, thing_of, thing_is, begins, places_behind, places_are, AreNamed, params_named, lines_named, lines_placed, params_placed, shown_again, counted_again, Meant, meant, value_shown, block_shown, Shows, shows_from, shows_behind, counted_param}
 use Rattle.rf_text.proofs.SpelledInsts.{pending, AreShown, inst_spelled}
@@ -154,11 +155,57 @@ module _ (gs : List (List ℕ)) (ns : Names) where
     params_said base (after_param n p.name) (k + 1) b ps rest order.1 (subst (λ x. Shows base ns x b (params_things (params_from (k + 1) ps) rest)) (counted_param n p.name) shows.1),
   )
 
+-- ---- how many there are
+
+module _ (tops : Scope TopMeaning) (scope : Scope LocalMeaning) (base : ℕ) where
+  -- marks are of so many lines
+  abbrev AreOf : ℕ → ℕ → List Mark → Type 0
+  AreOf s l ms = (many ms ≡ s) × (starts ms ≤ l + s)
+
+  More : List Numbered → Type 0
+  More xs = (o : Bool) (p : ℕ) (ms : List Mark) → AreBuilt tops scope base o p xs ms → AreOf (stmts xs) (labels xs) ms
+
+  opening_of : (o : Bool) (i : Inst) (ms : List Mark) (s l : ℕ) → AreOf s l ms → AreOf (1 + s) (0 + l) (opening o (Does i ∷ ms))
+  opening_of true i ms s l h = (omega (arith, h.0), omega (arith, h.1))
+  opening_of false i ms s l h = (omega (arith, h.0), omega (arith, h.1))
+
+  none_of : (s l : ℕ) (ms : List Mark) → AreOf s l ms → AreOf (0 + s) (0 + l) ms
+  none_of s l ms h = (omega (arith, h.0), omega (arith, h.1))
+
+  line_of : (n p : ℕ) (o : Bool) (form : Line) (xs : List Numbered) (ms : List Mark) → LineBuilt tops scope base o p n form xs ms (λ o q more. AreBuilt tops scope base o q xs more) → More xs → AreOf (stmt_in form + stmts xs) (label_in form + labels xs) ms
+  unfolding More
+  line_of n p o (line.Label name) xs ms b next =
+      let h : AreOf (stmts xs) (labels xs) b.0 = next true p b.0 b.2 in
+      let one : many b.0 ≡ stmts xs = h.0 in
+      let two : starts b.0 ≤ labels xs + stmts xs = h.1 in
+      subst (AreOf (0 + stmts xs) (1 + labels xs)) (sym b.1) (omega (arith, one), omega (arith, two))
+  line_of n p o (line.Stmt s) xs ms b next = subst (AreOf (1 + stmts xs) (0 + labels xs)) (sym b.3) (opening_of o b.0 b.1 (stmts xs) (labels xs) (next (not (is_terminator s.op)) (p + 1) b.1 b.4))
+  line_of n p o (line.Case value label) xs ms b next = none_of (stmts xs) (labels xs) ms (next o p ms b)
+  line_of n p o line.CasesEnd xs ms b next = none_of (stmts xs) (labels xs) ms (next o p ms b)
+  line_of n p o line.Empty xs ms b next = none_of (stmts xs) (labels xs) ms (next o p ms b)
+  line_of n p o (line.Kept kept) xs ms b next = none_of (stmts xs) (labels xs) ms (next o p ms b)
+  line_of n p o (line.Define name head) xs ms b next = none_of (stmts xs) (labels xs) ms (next o p ms b)
+  line_of n p o line.Close xs ms b next = none_of (stmts xs) (labels xs) ms (next o p ms b)
+
+  lines_of : (o : Bool) (p : ℕ) (body : List Numbered) (ms : List Mark) → AreBuilt tops scope base o p body ms → AreOf (stmts body) (labels body) ms
+  unfolding More
+  lines_of o p [] ms b = subst (AreOf 0 0) (sym b) (refl, omega arith)
+  lines_of o p (x ∷ xs) ms b = line_of x.line p o x.form xs ms b (λ o' p' more b'. lines_of o' p' xs more b')
+
+params_many : (ps : List Param) (vs : List Named) → length (named_params ps vs) ≡ length ps + length vs
+params_many [] vs = omega arith
+params_many (p ∷ ps) vs = let more : length (named_params ps vs) ≡ length ps + length vs = params_many ps vs in omega (arith, more)
+
+params_same : (k : ℕ) (ps : List Param) → length (params_from k ps) ≡ length ps
+params_same k [] = refl
+params_same k (p ∷ ps) = ap suc (params_same (k + 1) ps)
+
 -- ---- the function
 
 pub record IsSpelledFunc (gs : List (List ℕ)) (f : Func) (head : Head) (body : List Numbered) : Type 0 where
   pub header : IsHeaderOf f head
   pub blocks : AreBlocks (names_of f) gs 0 f.blocks (map form_of body)
+  pub few : length (named_of f) ≤ length head.params + (stmts body + (labels body + stmts body))
 
 pub func_spelled : (gs : List (List ℕ)) (tops : Scope TopMeaning) (known : AreKnown tops gs) (n : ℕ) (lines : List ℕ) (head : Head) (body : List Numbered) (l : LocalNames) (b : BuiltSoFar) (u : Unit {0}) → IsOrdered head body →
     locals_of n head body ≡ Ok l → built_of tops l.scope n lines head body ≡ Ok b → lines_typed tops l.scope head.ret (sources_of l body) start body ≡ Ok u → IsSpelledFunc gs (func_of (length lines) head (closed b.blocks b.current)) head body
@@ -168,10 +215,10 @@ func_spelled gs tops known n lines head body l b u is e built typed =
     let ps : List Param = head.params in
     let f : Func = func_of (length lines) head (closed b.blocks b.current) in
     let ns : Names = names_of (func_of (length lines) head (closed b.blocks b.current)) in
-    let many : length (param_lines n lines head.params) ≡ length lines + length head.params = length_param_lines n lines head.params in
+    let longer : length (param_lines n lines head.params) ≡ length lines + length head.params = length_param_lines n lines head.params in
     let place : places_behind 0 head.params ≡ 0 + length head.params = places_are 0 head.params in
     let made : IsBuilt tops l.scope (length lines) (record { blocks = []; current = None; lines = param_lines n lines head.params }) b false (places_behind 0 head.params) body =
-    lines_built tops l.scope (length lines) (record { blocks = []; current = None; lines = param_lines n lines head.params }) b false (places_behind 0 head.params) body refl (omega (arith, many, place)) built in
+    lines_built tops l.scope (length lines) (record { blocks = []; current = None; lines = param_lines n lines head.params }) b false (places_behind 0 head.params) body refl (omega (arith, longer, place)) built in
     let ms : List Mark = made.more in
     let whole : marks (closed b.blocks b.current) ≡ made.more = made.whole in
     let things : List Thing = params_things (params_from (length lines) head.params) (marks_things made.more) in
@@ -205,7 +252,16 @@ func_spelled gs tops known n lines head body l b u is e built typed =
     let r : AreSaid gs ns tops known l.scope (length lines) all 0 false body made.more =
     lines_said gs ns tops known l.scope (length lines) all (behind_params 0 head.params) (places_behind 0 head.params) 0 false false body made.more is.lines is.good (lines_are_typed tops l.scope head.ret (sources_of l body) start body u typed) made.built
     (shows_behind (length lines) ns 0 (length lines) 0 head.params (marks_things made.more) shows) in
+    let counts : (many made.more ≡ stmts body) × (starts made.more ≤ labels body + stmts body) = lines_of tops l.scope (length lines) false (places_behind 0 head.params) body made.more made.built in
+    let few : length (named_of (func_of (length lines) head (closed b.blocks b.current))) ≤ length head.params + (stmts body + (labels body + stmts body)) =
+    let own : length (marks_named made.more) ≤ many made.more + starts made.more = named_most made.more in
+    let named_blocks : blocks_named (closed b.blocks b.current) ≡ marks_named made.more = sym (blocks_are (closed b.blocks b.current)) ∙ ap marks_named whole in
+    let all_named : length (named_params (params_from (length lines) head.params) (blocks_named (closed b.blocks b.current))) ≡ length (params_from (length lines) head.params) + length (blocks_named (closed b.blocks b.current)) = params_many _ _ in
+    let one : many made.more ≡ stmts body = counts.0 in
+    let two : starts made.more ≤ labels body + stmts body = counts.1 in
+    omega (arith, own, ap length named_blocks, all_named, params_same (length lines) head.params, one, two) in
     record {
       header = record { before = refl; ret = refl; name = refl; params = params_said gs ns (length lines) 0 (length lines) 0 head.params (marks_things made.more) is.params shows; after = refl };
       blocks = subst (AreBlocks ns gs 0 (closed b.blocks b.current)) (sym r.split) (blocks_say gs ns 0 (closed b.blocks b.current) r.rest (subst (λ ys. SayMarks gs ns 0 ys r.rest) (sym whole) r.says));
+      few = few;
     })

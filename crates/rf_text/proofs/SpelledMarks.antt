@@ -1,5 +1,5 @@
 -- The lines of a function's blocks by the marks of those: the begin of each block and each instruction.
-use Rattle.std.proofs.Common.{◌≡◌, ℕ, ◌+◌, ◌⊎◌, inl, inr, Bool, true, false, not, List, [], ◌∷◌, ◌++◌, map, Option, None, refl, sym, ◌∙◌, ap, subst, append_assoc}
+use Rattle.std.proofs.Common.{◌≡◌, ℕ, suc, ◌+◌, ◌≤◌, ◌⊎◌, inl, inr, Bool, true, false, not, List, [], ◌∷◌, ◌++◌, length, map, Option, None, refl, sym, ◌∙◌, ap, subst, append_assoc, arith}
 use Rattle.std.specs.List.{All}
 use Rattle.std.proofs.lemmas.List.Elements.{All-head, All-tail}
 use Rattle.ir_types.specs.declared.inst.Inst.{Inst}
@@ -135,6 +135,18 @@ pub has_first : (f : Line) (fs : List Line) (body : List Numbered) → map form_
 has_first f fs [] e = no_line e
 has_first f fs (x ∷ xs) e = record { n = x.line; rest = xs; whole = ap (λ (g : Line). record { line = x.line; form = g } ∷ xs) (first_line e); forms = more_lines e }
 
+-- how many instructions there are, and how many blocks begin
+
+abbrev pub many : List Mark → ℕ
+many [] = 0
+many (Starts name ∷ ms) = many ms
+many (Does i ∷ ms) = suc (many ms)
+
+abbrev pub starts : List Mark → ℕ
+starts [] = 0
+starts (Starts name ∷ ms) = suc (starts ms)
+starts (Does i ∷ ms) = starts ms
+
 -- what is named by marks, in order
 abbrev pub marks_named : List Mark → List Named
 marks_named [] = []
@@ -148,3 +160,16 @@ insts_are (i ∷ is) ms = ap (result_named (is_void i.ty) (is_store i.op) i) (in
 pub blocks_are : (bs : List Block) → marks_named (marks bs) ≡ blocks_named bs
 blocks_are [] = refl
 blocks_are (b ∷ bs) = ap (λ vs. Label b.name ∷ vs) (insts_are b.insts (marks bs) ∙ ap (insts_named b.insts) (blocks_are bs))
+
+result_most : (v w : Bool) (i : Inst) (vs : List Named) → length (result_named v w i vs) ≤ suc (length vs)
+result_most false false i vs = omega arith
+result_most false true i vs = omega arith
+result_most true w i vs = omega arith
+
+pub named_most : (ms : List Mark) → length (marks_named ms) ≤ many ms + starts ms
+named_most [] = omega arith
+named_most (Starts name ∷ ms) = let more : length (marks_named ms) ≤ many ms + starts ms = named_most ms in omega (arith, more)
+named_most (Does i ∷ ms) =
+    let more : length (marks_named ms) ≤ many ms + starts ms = named_most ms in
+    let one : length (result_named (is_void i.ty) (is_store i.op) i (marks_named ms)) ≤ suc (length (marks_named ms)) = result_most (is_void i.ty) (is_store i.op) i (marks_named ms) in
+    omega (arith, more, one)

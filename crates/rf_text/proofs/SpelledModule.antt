@@ -1,5 +1,5 @@
 -- A text that is a draft, whose names and types resolve to a module with the low byte first, spells that module.
-use Rattle.std.proofs.Common.{◌≡◌, ℕ, ◌+◌, Bool, true, false, not, List, [], ◌∷◌, ◌++◌, length, map, Option, Some, None, Ok, refl, sym, ◌∙◌, ap, subst, append_assoc}
+use Rattle.std.proofs.Common.{◌≡◌, ℕ, ◌+◌, Bool, true, false, not, List, [], ◌∷◌, ◌++◌, length, map, Option, Some, None, Ok, refl, sym, ◌∙◌, ap, subst, append_assoc, arith}
 use Rattle.std.proofs.lemmas.List.{append-nil}
 use Rattle.std.specs.List.{All}
 use Rattle.std.proofs.lemmas.List.Elements.{All-nil, All-cons, All-head, All-tail}
@@ -36,12 +36,13 @@ use Rattle.ir_types_check.proofs.NamesHold.{names_hold}
 use Rattle.ir_types_check.proofs.ReadLinks.{AreKnown}
 use Rattle.ir_types_check.proofs.ReadTops.{tops_are}
 use Rattle.rf_text.specs.Headed.{first_name}
-use Rattle.rf_text.specs.Printable.{IsPrintable, IsNumbered}
+use Rattle.rf_text.specs.Printable.{IsPrintable, IsNumbered, IsCountedItem, IsCounted}
 use Rattle.rf_text.specs.Reads.{Reads}
 use Rattle.rf_text.specs.Spelled.{opens, closes, AreForms, NoLine, Inside, Outside, solid, AreItems, NoItem, KeptItem, Function}
 use Rattle.rf_text.specs.Spells.{AcceptedTextsSpell}
 use Rattle.rf_text.proofs.Kept.{Formed, formed, kept_by_text}
 use Rattle.rf_text.proofs.ReadableModule.{read_back}
+use Rattle.rf_text.proofs.SpelledCounts.{IsFew, draft_few}
 use Rattle.rf_text.proofs.SpelledOrder.{IsOrdered, IsOrderedItem, form_of, item_forms, draft_forms, AreRead, items_read}
 use Rattle.rf_text.proofs.SpelledLines.{IsSpelledFunc, func_spelled}
 
@@ -109,12 +110,13 @@ module _ (gs : List (List ℕ)) (tops : Scope TopMeaning) (known : AreKnown tops
   record IsSaid (done after : DoneSoFar) (x : DraftItem) : Type 0 where
     new : Item
     items_are : after.items ≡ done.items ++ new ∷ []
+    few : IsCountedItem new
     says : (is : List Item) (more : List Line) → AreItems gs is more → AreItems gs (new ∷ is) (item_forms x ++ more)
 
-  function_said : (n : ℕ) (done after : DoneSoFar) (head : Head) (body : List Numbered) (u : Unit {0}) → IsOrdered head body → resolved_function tops n done head body ≡ Ok after → function_typed tops n head body ≡ Ok u →
+  function_said : (n : ℕ) (done after : DoneSoFar) (head : Head) (body : List Numbered) (u : Unit {0}) → IsOrdered head body → IsFew (item.Func n head body) → resolved_function tops n done head body ≡ Ok after → function_typed tops n head body ≡ Ok u →
       IsSaid done after (item.Func n head body)
   unfolding resolved_function function_typed with_built
-  function_said n done after head body u order e t =
+  function_said n done after head body u order small e t =
       bind_ok (locals_of n head body) _ after e (λ l was now.
       bind_ok (built_of tops l.scope n done.lines head body) _ after now (λ b built is.
       bind_ok (locals_of n head body) _ u t (λ k again typed.
@@ -124,6 +126,7 @@ module _ (gs : List (List ℕ)) (tops : Scope TopMeaning) (known : AreKnown tops
       record {
         new = items.Func f;
         items_are = sym (ap (λ (x : DoneSoFar). x.items) (ok_is is));
+        few = omega (arith, small, h.few);
         says = λ is more all.
             subst (λ fs. AreItems gs (items.Func f ∷ is) (line.Define (first_name f) (Some head) ∷ fs)) (sym (append_assoc (map form_of body) (line.Close ∷ []) more))
             (Function f head (map form_of body) is more h.header h.blocks all);
@@ -132,30 +135,33 @@ module _ (gs : List (List ℕ)) (tops : Scope TopMeaning) (known : AreKnown tops
       typed_of : (k l : LocalNames) → k ≡ l → lines_typed tops k.scope head.ret (sources_of k body) start body ≡ Ok u → lines_typed tops l.scope head.ret (sources_of l body) start body ≡ Ok u
       typed_of k l same typed = subst (λ (x : LocalNames). lines_typed tops x.scope head.ret (sources_of x body) start body ≡ Ok u) same typed
 
-  item_said : (done after : DoneSoFar) (x : DraftItem) (u : Unit {0}) → IsOrderedItem x → resolved_item tops done x ≡ Ok after → item_typed tops x ≡ Ok u → IsSaid done after x
+  item_said : (done after : DoneSoFar) (x : DraftItem) (u : Unit {0}) → IsOrderedItem x → IsFew x → resolved_item tops done x ≡ Ok after → item_typed tops x ≡ Ok u → IsSaid done after x
   unfolding with_kept
-  item_said done after (item.Kept n kept) u order e t = record {
+  item_said done after (item.Kept n kept) u order small e t = record {
     new = items.Kept kept.text;
+    few = tt;
     items_are = sym (ap (λ (x : DoneSoFar). x.items) (ok_is e));
     says = λ is more all. subst (λ k. AreItems gs (items.Kept kept.text ∷ is) (line.Kept k ∷ more)) (sym (kept_by_text order.0 kept order.1)) (KeptItem kept.text is more all);
   }
-  item_said done after (item.Opaque n name text) u order e t = absurd order
-  item_said done after (item.Func n head body) u order e t = function_said n done after head body u order e t
+  item_said done after (item.Opaque n name text) u order small e t = absurd order
+  item_said done after (item.Func n head body) u order small e t = function_said n done after head body u order small e t
 
   record AreSaid (done after : DoneSoFar) (xs : List DraftItem) : Type 0 where
     new : List Item
     items_are : after.items ≡ done.items ++ new
+    few : All IsCountedItem new
     says : AreItems gs new (draft_forms xs)
 
-  items_said : (done after : DoneSoFar) (xs : List DraftItem) (u : Unit {0}) → All IsOrderedItem xs → resolved_items tops done xs ≡ Ok after → items_typed tops xs ≡ Ok u → AreSaid done after xs
-  items_said done after [] u order e t = record { new = []; items_are = sym (ap (λ (x : DoneSoFar). x.items) (ok_is e)) ∙ sym (append-nil done.items); says = NoItem }
-  items_said done after (x ∷ xs) u order e t =
+  items_said : (done after : DoneSoFar) (xs : List DraftItem) (u : Unit {0}) → All IsOrderedItem xs → All IsFew xs → resolved_items tops done xs ≡ Ok after → items_typed tops xs ≡ Ok u → AreSaid done after xs
+  items_said done after [] u order small e t = record { new = []; few = All-nil IsCountedItem; items_are = sym (ap (λ (x : DoneSoFar). x.items) (ok_is e)) ∙ sym (append-nil done.items); says = NoItem }
+  items_said done after (x ∷ xs) u order small e t =
       bind_ok (resolved_item tops done x) _ after e (λ m was now.
       bind_ok (item_typed tops x) _ u t (λ v typed then'.
-      let one : IsSaid done m x = item_said done m x v (All-head IsOrderedItem x xs order) was typed in
-      let rest : AreSaid m after xs = items_said m after xs u (All-tail IsOrderedItem x xs order) now then' in
+      let one : IsSaid done m x = item_said done m x v (All-head IsOrderedItem x xs order) (All-head IsFew x xs small) was typed in
+      let rest : AreSaid m after xs = items_said m after xs u (All-tail IsOrderedItem x xs order) (All-tail IsFew x xs small) now then' in
       record {
         new = one.new ∷ rest.new;
+        few = All-cons IsCountedItem one.new rest.new one.few rest.few;
         items_are = rest.items_are ∙ ap (λ is. is ++ rest.new) one.items_are ∙ append_assoc done.items (one.new ∷ []) rest.new;
         says = one.says rest.new (draft_forms xs) rest.says;
       }))
@@ -169,19 +175,23 @@ texts_spell bytes d r read resolved little =
     let reads : Reads bytes r.«module» = record { items = d.items; says = says; named = names_hold d r resolved } in
     let back : IsPrintable r.«module» × IsNumbered r.«module» = read_back bytes r.«module» reads little in
     let lines : AreRead d.items (solid says.forms) = items_read bytes d.items says in
-    let all : AreItems r.«module».globals r.«module».items (solid says.forms) =
+    let few : All IsFew d.items = draft_few bytes d read in
+    let all : AreItems r.«module».globals r.«module».items (solid says.forms) × IsCounted r.«module» =
     bind_ok (tops_of d.items) _ r resolved (λ tops named now.
     bind_ok (resolved_items tops.scope (record { items = []; lines = [] }) d.items) _ r now (λ done was then'.
     bind_ok (items_typed tops.scope d.items) _ r then' (λ u typed is.
     let known : AreKnown tops.scope tops.globals = (tops_are d.items tops named).known in
-    let h : AreSaid tops.globals tops.scope known (record { items = []; lines = [] }) done d.items = items_said tops.globals tops.scope known (record { items = []; lines = [] }) done d.items u lines.each was typed in
-    subst (λ (x : Resolved). AreItems x.«module».globals x.«module».items (solid says.forms)) (ok_is is)
-    (subst (AreItems tops.globals done.items) lines.lines (subst (λ xs. AreItems tops.globals xs (draft_forms d.items)) (sym h.items_are) h.says))))) in
+    let h : AreSaid tops.globals tops.scope known (record { items = []; lines = [] }) done d.items = items_said tops.globals tops.scope known (record { items = []; lines = [] }) done d.items u lines.each few was typed in
+    subst (λ (x : Resolved). AreItems x.«module».globals x.«module».items (solid says.forms) × IsCounted x.«module») (ok_is is) (
+      subst (AreItems tops.globals done.items) lines.lines (subst (λ xs. AreItems tops.globals xs (draft_forms d.items)) (sym h.items_are) h.says),
+      subst (All IsCountedItem) (sym h.items_are) h.few,
+    )))) in
     record {
       sound = all_sound 1 (lines_of bytes) says.sound;
       forms = says.forms;
       spells = forms_are false (lines_of bytes) says.forms says.spelled;
-      says = all;
+      says = all.0;
       printable = back.0;
       numbered = back.1;
+      counted = all.1;
     }

@@ -33,7 +33,7 @@ use Rattle.rf_text.proofs.NamedPlaces.{Known}
 use Rattle.rf_text.proofs.NamedShown.{Again}
 use Rattle.rf_text.proofs.NamedThings.{Thing, params_things}
 use Rattle.rf_text.proofs.SpelledBuilt.{Mark, Starts, Does, insts_marks, marks, marks_things, so_far, is_some, opening, with_marks, with_open, label_marks, label_open, label_lines}
-use Rattle.rf_text.proofs.SpelledMarks.{SayMarks, Ends, HasFirst, has_first}
+use Rattle.rf_text.proofs.SpelledMarks.{many, SayMarks, Ends, HasFirst, has_first}
 use Rattle.rf_text.proofs.SpelledOrder.{form_of}
 use Rattle.rf_text.proofs.SpellingLocals.{IsSilent, AreSilent, Behind, more_behind}
 
@@ -42,12 +42,6 @@ clash e = cc
 
 no_line : {P : Type 0} {f : Line} {fs : List Line} → [] ≡ f ∷ fs → P
 no_line e = cc
-
--- how many instructions there are
-abbrev pub many : List Mark → ℕ
-many [] = 0
-many (Starts name ∷ ms) = many ms
-many (Does i ∷ ms) = suc (many ms)
 
 module _ (tops : Scope TopMeaning) (scope : Scope LocalMeaning) (base : ℕ) (ns : Names) (gs : List (List ℕ)) where
   -- ---- one instruction

@@ -41,9 +41,9 @@ use Rattle.rf_text.proofs.NamedThings.{Thing, blocks_things, params_things}
 use Rattle.rf_text.proofs.NamedTops.{tops_from, tops_once, kept_scope, kept_next, HasTops, globals_found}
 use Rattle.rf_text.proofs.NamedTops as tops
 use Rattle.rf_text.proofs.SpelledBuilt.{Mark, insts_marks, marks, things_same}
-use Rattle.rf_text.proofs.SpelledMarks.{blocks_marked, Ends, blocks_end, marks_once}
+use Rattle.rf_text.proofs.SpelledMarks.{many, blocks_marked, Ends, blocks_end, marks_once}
 use Rattle.rf_text.proofs.SpelledOrder.{form_of}
-use Rattle.rf_text.proofs.SpellingBuilt.{many, AreRead, blocks_read, IsMade, marks_made, params_again}
+use Rattle.rf_text.proofs.SpellingBuilt.{AreRead, blocks_read, IsMade, marks_made, params_again}
 use Rattle.rf_text.proofs.SpellingLocals.{IsSaid, locals_said}
 
 -- a draft's item with the lines of an item

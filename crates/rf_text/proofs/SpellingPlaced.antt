@@ -1,5 +1,5 @@
 -- The lines of a body that spell a function of the profile stand where they may.
-use Rattle.std.proofs.Common.{◌≡◌, ℕ, suc, ◌+◌, ◌^◌, ◌<◌, inl, inr, Bool, true, false, cond, not, ◌&&◌, List, [], ◌∷◌, ◌++◌, length, Option, Some, None, Result, Ok, Err, refl, sym, ◌∙◌, ap, subst, arith}
+use Rattle.std.proofs.Common.{◌≡◌, ℕ, ◌+◌, ◌^◌, ◌<◌, inl, inr, Bool, true, false, cond, not, ◌&&◌, List, [], ◌∷◌, ◌++◌, length, Option, Some, None, Result, Ok, Err, refl, sym, ◌∙◌, ap, subst, arith}
 use Rattle.std.specs.List.{All, AllZip}
 use Rattle.std.proofs.lemmas.List.Elements.{All-head, All-tail}
 use Rattle.std.specs.Prelude.{unwrap_or}
@@ -27,7 +27,7 @@ use Rattle.rf_text.proofs.PlacedBlocks.{AreFitting, label_stands}
 use Rattle.rf_text.proofs.PlacedInsts.{IsFitting, opening, opening_behind, ResultTaken, result_taken, inst_stands, lines_append}
 use Rattle.rf_text.proofs.PlacedNames.{Ahead, name_taken, ahead_small, value_found, value_passed, label_found, label_passed}
 use Rattle.rf_text.proofs.SpelledBuilt.{Mark, Starts, Does, insts_marks, marks}
-use Rattle.rf_text.proofs.SpelledMarks.{SayMarks, Ends, marks_named}
+use Rattle.rf_text.proofs.SpelledMarks.{starts, SayMarks, Ends, marks_named}
 
 clash : {P : Type 0} → true ≡ false → P
 clash e = cc
@@ -109,12 +109,6 @@ module _ (names : List (List ℕ)) (ns : Names) (gs : List (List ℕ)) where
   spot_behind : (ends before : Bool) → opening_behind ends before ≡ spot (not ends) before
   spot_behind true before = refl
   spot_behind false before = refl
-
-  -- how many blocks begin
-  abbrev pub starts : List Mark → ℕ
-  starts [] = 0
-  starts (Starts name ∷ ms) = suc (starts ms)
-  starts (Does i ∷ ms) = starts ms
 
   pub record LinesStand (at : ℕ) (ms : List Mark) (said : Result Place ReadRefusal) : Type 0 where
     pub next : ℕ

@@ -52,11 +52,11 @@ use Rattle.rf_text.proofs.PlacedModule.{AreFittingItems, items_fit, free_of}
 use Rattle.rf_text.proofs.PlacedNames.{Ahead, pairs_apart}
 use Rattle.rf_text.proofs.ReadableForms.{passed, insts_silent, body_silent, gap_silent}
 use Rattle.rf_text.proofs.SpelledBuilt.{marks}
-use Rattle.rf_text.proofs.SpelledMarks.{blocks_marked, blocks_end, first_line, more_lines, blocks_are}
+use Rattle.rf_text.proofs.SpelledMarks.{starts, blocks_marked, blocks_end, first_line, more_lines, blocks_are}
 use Rattle.rf_text.proofs.SpelledModule.{after_inside, after_outside}
 use Rattle.rf_text.proofs.SpelledOrder.{form_of}
 use Rattle.rf_text.proofs.SpellingItems.{IsDraftOf, items_named}
-use Rattle.rf_text.proofs.SpellingPlaced.{ParamsTaken, params_taken, blocks_fit, starts, LinesStand, marks_stand, lines_free}
+use Rattle.rf_text.proofs.SpellingPlaced.{ParamsTaken, params_taken, blocks_fit, LinesStand, marks_stand, lines_free}
 
 no_line : {P : Type 0} {f : Line} {fs : List Line} → [] ≡ f ∷ fs → P
 no_line e = cc
@@ -166,9 +166,9 @@ module _ (known : Known) (gs : List (List ℕ)) where
     stand : body_lines known.names (n + 1) (start first) front ≡ Ok (place next insts blocks no_block)
     some : nat_eq blocks 0 ≡ false
 
-  some_starts : (names gs' : List (List ℕ)) (ns : Names) (bs : List Block) → 0 < length bs → 0 < starts names ns gs' (marks bs)
-  some_starts names gs' ns [] h = absurd (omega (arith, h))
-  some_starts names gs' ns (b ∷ bs) h = omega arith
+  some_starts : (bs : List Block) → 0 < length bs → 0 < starts (marks bs)
+  some_starts [] h = absurd (omega (arith, h))
+  some_starts (b ∷ bs) h = omega arith
 
   not_zero : (k : ℕ) → 0 < k → nat_eq k 0 ≡ false
   not_zero k h = grind (arith, nat_tests)
@@ -180,7 +180,7 @@ module _ (known : Known) (gs : List (List ℕ)) where
       let lines : LinesStand known.names (names_of f) gs 0 (marks f.blocks) (body_lines known.names 0 (place taken.next 0 0 no_block) body) =
       marks_stand known.names (names_of f) gs (marks f.blocks) body 0 taken.next 0 0 false true (blocks_marked gs (names_of f) blocks) (blocks_end f.blocks ends) (blocks_fit known.names (names_of f) gs 0 f.blocks fits.blocks true)
       (subst (Ahead (names_of f) 0 taken.next) (sym (blocks_are f.blocks)) taken.ahead) in
-      let many : 0 < starts known.names (names_of f) gs (marks f.blocks) = some_starts known.names gs (names_of f) f.blocks fits.some in
+      let many : 0 < starts (marks f.blocks) = some_starts f.blocks fits.some in
       record {
         first = taken.next;
         params = taken.taken;
@@ -188,7 +188,7 @@ module _ (known : Known) (gs : List (List ℕ)) where
         insts = lines.insts;
         blocks = lines.blocks;
         stand = lines_free known.names 0 (n + 1) (start taken.next) (place lines.next lines.insts lines.blocks no_block) front (ap (body_lines known.names 0 (start taken.next)) e ∙ lines.stand);
-        some = not_zero lines.blocks (let count : lines.blocks ≡ 0 + starts known.names (names_of f) gs (marks f.blocks) = lines.count in omega (arith, count, many));
+        some = not_zero lines.blocks (let count : lines.blocks ≡ 0 + starts (marks f.blocks) = lines.count in omega (arith, count, many));
       }
 
   -- a function with its lines
@@ -316,7 +316,7 @@ ending m known gs (Opaque text ∷ is) all = ending m known gs is (All-tail (IsF
 ending m known gs (FuncItem f ∷ is) all = (all_end m f (All-head (IsFormedItem m) (FuncItem f) is all), ending m known gs is (All-tail (IsFormedItem m) (FuncItem f) is all))
 
 pub spelled_reads : SpelledTextsRead
-spelled_reads bytes m s formed counted =
+spelled_reads bytes m s formed =
     let so : SaySo m.globals m.items (solid s.forms) = say_so s.says in
     let text : SeenSame s.forms so.said = seen_same s.forms so.said (subst (λ fs. AllZip SaySame fs so.said) (solid_public s.forms) so.own) in
     let printed : SeenSame (module_forms m) so.said = seen_same (module_forms m) so.said so.all in
@@ -325,13 +325,13 @@ spelled_reads bytes m s formed counted =
     let known : Known = outlook_of (map Some s.forms) in
     let free : (o : Opd) → IsAllowed m o → IsFree (barred_in s.forms) m.globals o = λ o h. subst (λ ns. IsFree ns m.globals o) (sym names) (free_of m o h) in
     let fits : AreFittingItems (outlook_of (map Some s.forms)) m.globals m.items =
-    items_fit m (outlook_of (map Some s.forms)) free m.items formed.items s.printable.items s.printable.operands counted (pairs_apart _ formed.once) (λ h. pointers ∙ s.printable.pointers h) in
+    items_fit m (outlook_of (map Some s.forms)) free m.items formed.items s.printable.items s.printable.operands s.counted (pairs_apart _ formed.once) (λ h. pointers ∙ s.printable.pointers h) in
     let r : ItemsRemain (outlook_of (map Some s.forms)) m.globals 1 [] s.forms m.items =
     items_remain (outlook_of (map Some s.forms)) m.globals s.says fits (ending m (outlook_of (map Some s.forms)) m.globals m.items formed.items) s.forms refl 1 [] in
     record {
       items = r.xs;
       says = record { sound = none_first 1 (lines_of bytes) s.sound; forms = s.forms; spelled = forms_read s.spells s.sound; placed = r.remain nothing_done refl };
-      named = items_named m r.xs formed s.printable s.numbered counted r.zip;
+      named = items_named m r.xs formed s.printable s.numbered s.counted r.zip;
     }
 
 -- ---- one module at most
@@ -366,4 +366,4 @@ reads_once bytes m n a b =
     ∙ ap (λ d. (module_of b.named.tops b.items d).«module») done ∙ b.named.is
 
 pub spelled_once : SpelledOnce
-spelled_once bytes m n a b formed_m formed_n few_m few_n = reads_once bytes m n (spelled_reads bytes m a formed_m few_m) (spelled_reads bytes n b formed_n few_n)
+spelled_once bytes m n a b formed_m formed_n = reads_once bytes m n (spelled_reads bytes m a formed_m) (spelled_reads bytes n b formed_n)

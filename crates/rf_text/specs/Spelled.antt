@@ -1,5 +1,6 @@
 -- A text that spells a module: each line of the text has the form that the module has there, with the module's own names in the place
--- of ids. It says of lines and names alone what it comes to that a text reads as a module (`Reads`).
+-- of ids. It is said of lines and names alone, without a reader's steps. A text that is accepted spells its module; and a formed module
+-- that a text spells is the one that it reads as, and the only one (`Spells`).
 --
 -- From top to bottom: which forms the lines of a text have, which forms the items of a module have, and that these are those.
 use Rattle.std.specs.Prelude.{◌≡◌, refl, ℕ, ◌+◌, Bool, true, false, not, Option, None, Some, List, [], ◌∷◌, ◌++◌, codes}
@@ -27,7 +28,7 @@ use Rattle.ir_read.specs.Lines.{lines_of}
 use Rattle.rf_text.specs.Headed.{first_name}
 use Rattle.rf_text.specs.Written.{shown_text, shown_block}
 use Rattle.rf_text.specs.ModuleForms.{insts_forms, kept_at}
-use Rattle.rf_text.specs.Printable.{IsPrintable, IsNumbered}
+use Rattle.rf_text.specs.Printable.{IsPrintable, IsNumbered, IsCounted}
 
 -- ---- the lines of a text
 
@@ -75,8 +76,8 @@ pub record IsHeaderOf (f : Func) (head : Head) : Type 0 where
   pub params : AllZip (IsWrittenParam (names_of f)) f.params head.params
   pub after : head.after ≡ f.after
 
--- the lines of blocks, of which the first has the number `at`: the label of each, by its name or its number, and its instructions, each
--- with names in the place of ids (`Written`); a block without a name also has no label
+-- the lines of blocks, of which the first has the number `at`: of each its label, by its name or its number, and its instructions with
+-- names in the place of ids (`forms_of` in `Written`); a block without a name may have no label
 pub data AreBlocks (ns : Names) (gs : List (List ℕ)) : ℕ → List Block → List Line → Type 0 where
   NoBlock : (at : ℕ) → AreBlocks ns gs at [] []
   Labelled : (at : ℕ) (b : Block) (bs : List Block) (more : List Line) → AreBlocks ns gs (at + 1) bs more → AreBlocks ns gs at (b ∷ bs) (line.Label (shown_block ns at) ∷ (insts_forms ns gs b.insts ++ more))
@@ -102,6 +103,8 @@ pub record Spelled (bytes : List ℕ) (m : Module) : Type 0 where
   -- whose names are such as text can have, each given once, and whose ids are 0, 1 and so on
   pub printable : IsPrintable m
   pub numbered : IsNumbered m
+  -- each function has no more values and blocks than 64 bits can number
+  pub counted : IsCounted m
 
 -- ---- an example: a function with one parameter and one block, both without a name
 

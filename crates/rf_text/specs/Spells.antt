@@ -6,7 +6,6 @@ use Rattle.ir_line.specs.declared.draft.Draft.{Draft}
 use Rattle.ir_read.specs.Draft.{draft_of}
 use Rattle.ir_types_check.specs.declared.resolved.Resolved.{Resolved}
 use Rattle.ir_types_check.specs.Resolved.{resolved_of}
-use Rattle.rf_text.specs.Printable.{IsCounted}
 use Rattle.rf_text.specs.Reads.{Reads}
 use Rattle.rf_text.specs.Spelled.{Spelled}
 
@@ -16,8 +15,8 @@ AcceptedTextsSpell = (bytes : List ℕ) (d : Draft) (r : Resolved) → draft_of 
 
 -- a text that spells a formed module reads as that module
 abbrev pub SpelledTextsRead : Type 0
-SpelledTextsRead = (bytes : List ℕ) (m : Module) → Spelled bytes m → IsFormed m → IsCounted m → Reads bytes m
+SpelledTextsRead = (bytes : List ℕ) (m : Module) → Spelled bytes m → IsFormed m → Reads bytes m
 
 -- no text spells two formed modules
 abbrev pub SpelledOnce : Type 0
-SpelledOnce = (bytes : List ℕ) (m n : Module) → Spelled bytes m → Spelled bytes n → IsFormed m → IsFormed n → IsCounted m → IsCounted n → m ≡ n
+SpelledOnce = (bytes : List ℕ) (m n : Module) → Spelled bytes m → Spelled bytes n → IsFormed m → IsFormed n → m ≡ n

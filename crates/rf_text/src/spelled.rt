@@ -8,12 +8,12 @@ pub fn accepted_texts_spell()
     ensures { AcceptedTextsSpell }
 {}
 
-/// A text that spells a formed module reads as that module. Each function's values and blocks can be numbered by 64 bits.
+/// A text that spells a formed module reads as that module.
 pub fn spelled_texts_read()
     ensures { SpelledTextsRead }
 {}
 
-/// A text spells one such module at most.
+/// A text spells one formed module at most.
 pub fn one_spelled_module()
     ensures { SpelledOnce }
 {}
