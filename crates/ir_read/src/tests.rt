@@ -5,6 +5,7 @@ use ir_line::{Body, DraftItem, Line};
 use std::alloc::Global;
 use std::process::Abort;
 use std::test::Fail;
+use vx_list::Equal;
 
 /// A text and why it is no draft, if it is none.
 #[derive(Clone, Copy)]
@@ -93,6 +94,26 @@ fn drafts_are_read(rt: HostRuntime) {
     for text in DRAFTS {
         assert_eq!(&rt; refusal_of(rt.alloc(), text), None);
     }
+}
+
+/// Whether two texts are the same draft.
+fn same_draft(alloc: Global, one: &[u8], other: &[u8]) -> bool {
+    if one.len() >= 1 << 31 || other.len() >= 1 << 31 {
+        return false;
+    }
+    match (read(alloc, one), read(alloc, other)) {
+        (Ok(first), Ok(second)) => first.equal(&second),
+        _ => false,
+    }
+}
+
+#[test]
+fn line_ends_make_no_difference(rt: HostRuntime) {
+    let plain = b"@g = global i8 0\ndefine void @a() {\n  ret void\n}\n".as_slice();
+    let with_returns = b"@g = global i8 0\r\ndefine void @a() {\r\n  ret void\r\n}\r\n".as_slice();
+    let without_last = b"@g = global i8 0\ndefine void @a() {\n  ret void\n}".as_slice();
+    assert!(&rt; same_draft(rt.alloc(), with_returns, plain));
+    assert!(&rt; same_draft(rt.alloc(), without_last, plain));
 }
 
 #[test]
