@@ -1,7 +1,7 @@
-// Small functions with the answers that follow by hand from their graphs, and a large one.
+//! A small function with the answer that follows by hand from its graph, and large ones. Rows of texts stand in the crate `rows`.
 
 use super::*;
-use ir_types::{Block, Func, Id, Inst, Numbers, Op, Opd, Param, Ty};
+use ir_types::{Block, Func, Id, Inst, Op, Opd, Param, Ty};
 use std::alloc::AllocError;
 use std::process::Abort;
 use vx_list::{Seq, Short};
@@ -12,12 +12,10 @@ enum Shape {
     Plain,
     Br(u32),
     CondBr(u32, u32),
-    Switch(u32, &'static [u32]),
-    Phi(&'static [u32]),
     Ret,
 }
 
-use Shape::{Br, CondBr, Phi, Plain, Ret, Switch};
+use Shape::{Br, CondBr, Plain, Ret};
 
 // the id of an instruction, its shape, and the ids that it uses
 type Row = (u32, Shape, &'static [u32]);
@@ -28,7 +26,7 @@ type Case = (
     Option<(u32, u32, &'static [u32])>,
 );
 
-const CASES: [Case; 14] = [
+const CASES: [Case; 1] = [
     // only one branch brings the value
     (
         &[
@@ -37,106 +35,6 @@ const CASES: [Case; 14] = [
             &[(4, Ret, &[2])],
         ],
         Some((4, 0, &[0, 2])),
-    ),
-    // both do, by a value of the entry
-    (
-        &[
-            &[(1, Plain, &[0]), (2, CondBr(1, 2), &[1])],
-            &[(3, Plain, &[1]), (4, Br(2), &[])],
-            &[(5, Ret, &[1])],
-        ],
-        None,
-    ),
-    // a block that no walk reaches uses itself
-    (
-        &[&[(1, Ret, &[])], &[(2, Plain, &[2]), (3, Br(1), &[])]],
-        None,
-    ),
-    // a use before its definition in one block, and of itself
-    (
-        &[&[(1, Plain, &[0, 2]), (2, Plain, &[]), (3, Ret, &[])]],
-        Some((1, 1, &[0])),
-    ),
-    (&[&[(1, Plain, &[1]), (2, Ret, &[])]], Some((1, 0, &[0]))),
-    // carried round a loop by a phi, and used without one on the first way in
-    (
-        &[
-            &[(1, Br(1), &[])],
-            &[
-                (2, Phi(&[0, 1]), &[0, 3]),
-                (3, Plain, &[2]),
-                (4, CondBr(1, 2), &[3]),
-            ],
-            &[(5, Ret, &[3])],
-        ],
-        None,
-    ),
-    (
-        &[
-            &[(1, Br(1), &[])],
-            &[(2, Plain, &[3]), (3, Plain, &[2]), (4, CondBr(1, 2), &[3])],
-            &[(5, Ret, &[3])],
-        ],
-        Some((2, 0, &[0, 1])),
-    ),
-    // a phi's use stands at the end of its incoming block
-    (
-        &[
-            &[(1, CondBr(1, 2), &[0])],
-            &[(2, Plain, &[]), (3, Br(2), &[])],
-            &[(4, Phi(&[0, 1]), &[0, 2]), (5, Ret, &[4])],
-        ],
-        None,
-    ),
-    (
-        &[
-            &[(1, CondBr(1, 2), &[0])],
-            &[(2, Plain, &[]), (3, Br(2), &[])],
-            &[(4, Phi(&[1, 0]), &[0, 2]), (5, Ret, &[4])],
-        ],
-        Some((4, 1, &[0])),
-    ),
-    // two edges from one block into another, by a branch and by a switch
-    (
-        &[
-            &[(1, Plain, &[]), (2, CondBr(1, 1), &[0])],
-            &[(3, Ret, &[1])],
-        ],
-        None,
-    ),
-    (
-        &[
-            &[(1, Switch(2, &[1, 2, 1]), &[0])],
-            &[(2, Plain, &[]), (3, Br(3), &[])],
-            &[(4, Br(3), &[])],
-            &[(5, Ret, &[2])],
-        ],
-        Some((5, 0, &[0, 2, 3])),
-    ),
-    // of two shortest walks the least is named, and a longer one is not
-    (
-        &[
-            &[(1, CondBr(4, 3), &[0])],
-            &[(2, Plain, &[]), (3, Br(2), &[])],
-            &[(4, Ret, &[2])],
-            &[(5, CondBr(2, 1), &[0])],
-            &[(6, Switch(3, &[2, 1]), &[0])],
-        ],
-        Some((4, 0, &[0, 3, 2])),
-    ),
-    // nothing defines it; a parameter is always there
-    (
-        &[&[(1, Plain, &[0, 9]), (2, Ret, &[0])]],
-        Some((1, 1, &[0])),
-    ),
-    // the first use in order of text, though a later one has a shorter walk
-    (
-        &[
-            &[(1, CondBr(1, 2), &[0])],
-            &[(2, Ret, &[3])],
-            &[(3, Ret, &[2])],
-        ],
-        Some((2, 0, &[0, 1])),
     ),
 ];
 
@@ -270,28 +168,16 @@ fn inst(alloc: Global, row: Row, uses: &[u32]) -> Result<Inst, AllocError> {
         },
         name: None,
         ty: Ty::Int(1),
-        op: op(alloc, row.1)?,
+        op: op(row.1),
         opds,
     })
 }
 
-fn op(alloc: Global, shape: Shape) -> Result<Op, AllocError> {
+fn op(shape: Shape) -> Op {
     match shape {
-        Plain => Ok(Op::Select),
-        Br(to) => Ok(Op::Br { to }),
-        CondBr(yes, no) => Ok(Op::CondBr { yes, no }),
-        Switch(other, to) => Ok(Op::Switch {
-            other,
-            cases: Short::new(alloc),
-            to: numbers(alloc, to)?,
-        }),
-        Phi(blocks) => Ok(Op::Phi {
-            blocks: numbers(alloc, blocks)?,
-        }),
-        Ret => Ok(Op::Ret),
+        Plain => Op::Select,
+        Br(to) => Op::Br { to },
+        CondBr(yes, no) => Op::CondBr { yes, no },
+        Ret => Op::Ret,
     }
-}
-
-fn numbers(alloc: Global, list: &[u32]) -> Result<Numbers, AllocError> {
-    Ok(Seq::from_vec(Vec::from_slice(alloc, list)?))
 }

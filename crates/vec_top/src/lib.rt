@@ -14,6 +14,4 @@ mod top;
 pub use top::sandvec_alone;
 
 #[cfg(test)]
-mod spelled;
-#[cfg(test)]
 mod tests;

@@ -1,4 +1,4 @@
-//! The table of pairs, each with the instructions that the rule leaves, written out by hand.
+//! A pair with the instructions that the rule leaves, and two blocks without one. Rows of texts stand in the crate `rows`.
 //!
 //! The function has the parameters `ptr %p` (value 0) and `ptr %q` (value 1).
 
@@ -24,11 +24,6 @@ enum Line {
 
 use Line::{Both, Load, Step, Store};
 
-/// 2^63 - 2, the greatest even constant of 64 bits.
-const GREATEST: u64 = 9223372036854775806;
-/// -4 in 64 bits.
-const FOUR_BACK: u64 = 18446744073709551612;
-
 const Q4: Line = Step(2, 0, 4);
 
 const LOW: Line = Store(5, 7, 0, 4);
@@ -36,52 +31,16 @@ const LOW: Line = Store(5, 7, 0, 4);
 const HIGH: Line = Store(6, 8, 2, 4);
 
 /// Instructions with a pair, and what they become.
-const PAIRED: [(&str, &[Line], &[Line]); 6] = [
-    ("neighbours", &[Q4, LOW, HIGH], &[Q4, Both(6, [7, 8], 0, 4)]),
-    (
-        "the lesser constant second, with another align",
-        &[Q4, Store(5, 7, 2, 4), Store(6, 8, 0, 1)],
-        &[Q4, Both(6, [8, 7], 0, 1)],
-    ),
-    (
-        "the lesser constant first, with a greater align",
-        &[Q4, Store(5, 7, 0, 8), HIGH],
-        &[Q4, Both(6, [7, 8], 0, 8)],
-    ),
-    (
-        "from 4 bytes before the parameter",
-        &[Step(2, 0, FOUR_BACK), Store(5, 7, 2, 4), Store(6, 8, 0, 4)],
-        &[Step(2, 0, FOUR_BACK), Both(6, [7, 8], 2, 4)],
-    ),
-    (
-        "a sum between, and a chain of steps",
-        &[LOW, Step(3, 0, 1), Step(2, 3, 3), HIGH],
-        &[Step(3, 0, 1), Step(2, 3, 3), Both(6, [7, 8], 0, 4)],
-    ),
-    (
-        "the first of two pairs",
-        &[Q4, LOW, HIGH, Store(7, 9, 0, 4)],
-        &[Q4, Both(6, [7, 8], 0, 4), Store(7, 9, 0, 4)],
-    ),
-];
+const PAIRED: [(&str, &[Line], &[Line]); 1] = [(
+    "neighbours",
+    &[Q4, LOW, HIGH],
+    &[Q4, Both(6, [7, 8], 0, 4)],
+)];
 
 /// Instructions without one; whether `%p` is `noalias`.
-const KEPT: [(&str, bool, &[Line]); 7] = [
+const KEPT: [(&str, bool, &[Line]); 2] = [
     ("a load between", false, &[Q4, LOW, Load(3, 0), HIGH]),
-    (
-        "a vector store between",
-        false,
-        &[Q4, LOW, Both(7, [1, 2], 1, 4), HIGH],
-    ),
-    ("distance 8", false, &[Step(2, 0, 8), LOW, HIGH]),
-    (
-        "constants that overflow",
-        false,
-        &[Step(3, 0, GREATEST), Step(2, 3, 4), Store(5, 7, 3, 4), HIGH],
-    ),
-    ("another parameter", false, &[Step(2, 1, 4), LOW, HIGH]),
     ("noalias", true, &[Q4, LOW, HIGH]),
-    ("nothing", false, &[]),
 ];
 
 fn id(k: u32) -> Id {
