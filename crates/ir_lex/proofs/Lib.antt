@@ -8,3 +8,4 @@ pub mod Laws
 pub mod Longer
 pub mod Runs
 pub mod Standing
+pub mod Table

@@ -1,5 +1,6 @@
 -- What a token is, what the tokens of a line are, and what a lexical fault is.
 pub mod Bytes
+pub mod Classes
 pub mod Ends
 pub mod Faults
 pub mod Scan
