@@ -2,7 +2,7 @@
 //!
 //! The entry point is `resolved_items`. It fails at the first name that is unknown, or for want of memory.
 
-ghost use Rattle.std.specs.Prelude.{◌≡◌, ◌++◌, ◌∷◌, [], None, Ok, IfOk, OnOk, length};
+ghost use Rattle.std.specs.Prelude.{◌≡◌, ◌++◌, ◌∷◌, [], None, Some, Ok, IfOk, OnOk, length};
 ghost use Rattle.ir_types.specs.declared.module.Item.TheVariants as item;
 ghost use Rattle.ir_types_check.specs.Answers.{Gives};
 ghost use Rattle.ir_types_check.specs.Blocks as build;
@@ -74,106 +74,63 @@ fn inst_of(
     })
 }
 
-/// The blocks with the one that is open, if there is one.
-fn closed(mut blocks: Blocks, current: Option<Block>) -> Result<Blocks, AllocError>
-    ensures { IfOk result (λ all. all ≡ build.closed blocks current) }
+/// Adds an instruction to the open block; to an unnamed one where there is none.
+fn push_inst(alloc: Global, current: &mut Option<Block>, inst: Inst) -> Result<(), AllocError>
+    ensures { OnOk result (current.new ≡ Some (build.with_last (build.open_block current.old) inst)) }
 {
     if let Some(block) = current {
-        blocks.push(block)?;
+        block.insts.push(inst)?;
+        return Ok(());
     }
-    Ok(blocks)
-}
-
-/// The open block; an unnamed one where there is none.
-fn open_block(alloc: Global, current: Option<Block>) -> Block
-    ensures { result ≡ build.open_block current }
-{
-    match current {
-        Some(block) => block,
-        None => Block {
-            name: None,
-            insts: Insts::new(alloc),
-        },
-    }
-}
-
-/// A block with one more instruction.
-fn with_last(block: Block, inst: Inst) -> Result<Block, AllocError>
-    ensures { IfOk result (λ more. more ≡ build.with_last block inst) }
-{
-    let Block { name, mut insts } = block;
+    let mut insts = Insts::new(alloc);
     insts.push(inst)?;
-    Ok(Block { name, insts })
-}
-
-/// Behind an instruction, which closes its block or leaves it open.
-fn settled(
-    ends: bool,
-    mut blocks: Blocks,
-    block: Block,
-    lines: Numbers,
-) -> Result<Built, AllocError>
-    ensures { IfOk result (λ after. after ≡ build.settled ends blocks block lines) }
-{
-    if ends {
-        blocks.push(block)?;
-        Ok(Built {
-            blocks,
-            current: None,
-            lines,
-        })
-    } else {
-        Ok(Built {
-            blocks,
-            current: Some(block),
-            lines,
-        })
-    }
+    *current = Some(Block { name: None, insts });
+    Ok(())
 }
 
 impl Built {
-    /// With an instruction.
+    /// Adds an instruction, which closes its block or leaves it open.
     #[tactic(auto, unfolding(crate::specs::Blocks::with_inst))]
-    fn with_inst(self, alloc: Global, line: u32, inst: Inst) -> Result<Built, AllocError>
-        ensures { IfOk result (λ after. after ≡ build.with_inst line self inst) }
+    fn add_inst(&mut self, alloc: Global, line: u32, inst: Inst) -> Result<(), AllocError>
+        ensures { OnOk result (self.new ≡ build.with_inst line self.old inst) }
     {
-        let Built {
-            blocks,
-            current,
-            mut lines,
-        } = self;
-        lines.push(line)?;
+        self.lines.push(line)?;
         let ends = is_terminator(&inst.op);
-        let block = with_last(open_block(alloc, current), inst)?;
-        settled(ends, blocks, block, lines)
+        push_inst(alloc, &mut self.current, inst)?;
+        if ends {
+            self.close()?;
+        }
+        Ok(())
     }
 
-    /// With a label, which opens a block.
-    #[tactic(auto, unfolding(crate::specs::Blocks::labelled))]
-    fn labelled(self, alloc: Global, name: &Bytes) -> Result<Built, AllocError>
-        ensures { IfOk result (λ after. after ≡ build.labelled self name.now) }
+    /// Closes the open block, if there is one.
+    fn close(&mut self) -> Result<(), AllocError>
+        ensures { OnOk result (self.new ≡ record { blocks = build.closed self.old.blocks self.old.current; current = None; lines = self.old.lines }) }
     {
-        let Built {
-            blocks,
-            current,
-            lines,
-        } = self;
-        let blocks = closed(blocks, current)?;
-        let name = written_name(alloc, name)?;
-        Ok(Built {
-            blocks,
-            current: Some(Block {
-                name,
-                insts: Insts::new(alloc),
-            }),
-            lines,
-        })
+        if let Some(block) = self.current.take() {
+            self.blocks.push(block)?;
+        }
+        Ok(())
     }
 
-    /// With a statement.
+    /// Adds a label, which opens a block.
+    #[tactic(auto, unfolding(crate::specs::Blocks::labelled))]
+    fn add_label(&mut self, alloc: Global, name: &Bytes) -> Result<(), AllocError>
+        ensures { OnOk result (self.new ≡ build.labelled self.old name.now) }
+    {
+        self.close()?;
+        let name = written_name(alloc, name)?;
+        self.current = Some(Block {
+            name,
+            insts: Insts::new(alloc),
+        });
+        Ok(())
+    }
+
+    /// Adds a statement.
     #[tactic(auto, unfolding(crate::specs::Blocks::with_statement))]
-    fn with_statement(
-        self,
+    fn add_statement(
+        &mut self,
         alloc: Global,
         tops: &Scope<Top>,
         locals: &Scope<Meaning>,
@@ -181,17 +138,18 @@ impl Built {
         line: u32,
         stmt: &Stmt,
         rest: &[Numbered],
-    ) -> Result<Built, ResolveRefusal>
-        ensures { Gives (λ after. after) result (build.with_statement tops.now locals.now base line self stmt.now rest.now) }
+    ) -> Result<(), ResolveRefusal>
+        ensures { Gives (λ _. self.new) result (build.with_statement tops.now locals.now base line self.old stmt.now rest.now) }
     {
         let k = count_of(self.lines.len())?;
         let inst = inst_of(alloc, tops, locals, base, k, line, stmt, rest)?;
-        Ok(self.with_inst(alloc, line, inst)?)
+        self.add_inst(alloc, line, inst)?;
+        Ok(())
     }
 
-    /// With a line of the body, behind which these follow.
-    fn with_line(
-        self,
+    /// Adds a line of the body, after which these follow.
+    fn add_line(
+        &mut self,
         alloc: Global,
         tops: &Scope<Top>,
         locals: &Scope<Meaning>,
@@ -199,34 +157,36 @@ impl Built {
         line: u32,
         form: &Line,
         rest: &[Numbered],
-    ) -> Result<Built, ResolveRefusal>
-        ensures { Gives (λ after. after) result (build.built_line tops.now locals.now base line self form.now rest.now) }
+    ) -> Result<(), ResolveRefusal>
+        ensures { Gives (λ _. self.new) result (build.built_line tops.now locals.now base line self.old form.now rest.now) }
     {
         match form {
-            Line::Label(name) => Ok(self.labelled(alloc, name)?),
-            Line::Stmt(stmt) => { self.with_statement(alloc, tops, locals, base, line, stmt, rest) }
-            _ => Ok(self),
+            Line::Label(name) => {
+                self.add_label(alloc, name)?;
+                Ok(())
+            }
+            Line::Stmt(stmt) => { self.add_statement(alloc, tops, locals, base, line, stmt, rest) }
+            _ => Ok(()),
         }
     }
 
-    /// With all lines of the body.
-    fn with_lines(
-        self,
+    /// Adds all lines of the body.
+    fn add_lines(
+        &mut self,
         alloc: Global,
         tops: &Scope<Top>,
         locals: &Scope<Meaning>,
         base: u32,
         body: &[Numbered],
-    ) -> Result<Built, ResolveRefusal>
-        ensures { Gives (λ after. after) result (build.built_lines tops.now locals.now base self body.now) }
+    ) -> Result<(), ResolveRefusal>
+        ensures { Gives (λ _. self.new) result (build.built_lines tops.now locals.now base self.old body.now) }
     {
-        let mut whole = self;
         let mut rest = body;
         'each: while let [first, after @ ..] = rest {
-            whole = whole.with_line(alloc, tops, locals, base, first.line, &first.form, after)?;
+            self.add_line(alloc, tops, locals, base, first.line, &first.form, after)?;
             rest = after;
         }
-        Ok(whole)
+        Ok(())
     }
 }
 
@@ -306,12 +266,13 @@ fn built_of(
 {
     let mut lines = lines;
     add_param_lines(&mut lines, line, head.params.as_slice())?;
-    let start = Built {
+    let mut built = Built {
         blocks: Blocks::new(alloc),
         current: None,
         lines,
     };
-    start.with_lines(alloc, tops, locals, base, body)
+    built.add_lines(alloc, tops, locals, base, body)?;
+    Ok(built)
 }
 
 impl Done {
@@ -357,14 +318,16 @@ impl Done {
     {
         let Done { mut items, lines } = self;
         let base = count_of(lines.len())?;
-        let built = built_of(alloc, tops, &own.scope, base, line, lines, head, body)?;
-        let blocks = closed(built.blocks, built.current)?;
+        let mut built = built_of(alloc, tops, &own.scope, base, line, lines, head, body)?;
+        built.close()?;
+        let Built {
+            blocks,
+            current: _,
+            lines,
+        } = built;
         let func = func_of(alloc, base, head, blocks)?;
         items.push(Item::Func(func))?;
-        Ok(Done {
-            items,
-            lines: built.lines,
-        })
+        Ok(Done { items, lines })
     }
 }
 

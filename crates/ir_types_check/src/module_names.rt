@@ -17,15 +17,15 @@ use vx_list::Seq;
 
 /// The names of a module so far.
 #[derive(Drop)]
-pub(crate) struct ModuleNames {
+pub(crate) struct ModuleNames<'a> {
     pub(crate) tops: Tops,
     /// The names of each function, in order.
-    pub(crate) own: Seq<Locals>,
+    pub(crate) own: Seq<Locals<'a>>,
 }
 
-impl ModuleNames {
+impl<'a> ModuleNames<'a> {
     /// With an item.
-    fn add_item(&mut self, alloc: Global, item: &DraftItem) -> Result<(), ResolveRefusal>
+    fn add_item(&mut self, alloc: Global, item: &'a DraftItem) -> Result<(), ResolveRefusal>
         ensures names { Gives (λ _. self.new.tops) result (with_item self.old.tops item.now) }
         ensures own { OnOk result (all_ok self.new.own ≡ all_ok self.old.own ++ own_names item.now) }
     {
@@ -46,10 +46,10 @@ impl ModuleNames {
 }
 
 /// The names of a module.
-pub(crate) fn module_names_of(
+pub(crate) fn module_names_of<'a>(
     alloc: Global,
-    items: &[DraftItem],
-) -> Result<ModuleNames, ResolveRefusal>
+    items: &'a [DraftItem],
+) -> Result<ModuleNames<'a>, ResolveRefusal>
     ensures names { Gives (λ whole. whole.tops) result (tops_of items.now) }
     ensures own { IfOk result (λ whole. AreOwnNames items.now whole.own) }
 {

@@ -99,10 +99,10 @@ fn copy_of(alloc: Global, written: &Written) -> Result<Written, AllocError>
 }
 
 /// Whether an operand is the one that its block brought before, if it did. Else it is kept.
-fn brings(
-    brought: &mut Scope<Written>,
+fn brings<'a>(
+    brought: &mut Scope<'a, Written>,
     alloc: Global,
-    label: &[u8],
+    label: &'a [u8],
     opd: &Written,
 ) -> Result<bool, AllocError>
     ensures fits { IfOk result (λ fits. fits ≡ typed.is_brought (meaning label.now brought.old) opd.now) }
@@ -112,7 +112,7 @@ fn brings(
         Some(before) => Ok(same_opd(before, opd)),
         None => {
             let copy = copy_of(alloc, opd)?;
-            brought.add(alloc, label, copy)?;
+            brought.add(label, copy)?;
             Ok(true)
         }
     }

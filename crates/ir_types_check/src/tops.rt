@@ -38,7 +38,7 @@ pub(crate) enum Top {
 /// The names of a module so far.
 #[derive(Drop)]
 pub(crate) struct Tops {
-    pub(crate) scope: Scope<Top>,
+    pub(crate) scope: Scope<'static, Top>,
     /// The names of the globals in order of their lines.
     pub(crate) globals: Names,
 }
@@ -73,7 +73,7 @@ impl Tops {
     fn add(&mut self, alloc: Global, line: u32, name: &[u8], top: Top) -> Result<(), ResolveRefusal>
         ensures { Gives (λ _. self.new) result (tops.with_top line self.old name.now top) }
     {
-        self.scope.define(alloc, line, b'@', name, top)?;
+        self.scope.define_owned(alloc, line, b'@', name, top)?;
         Ok(())
     }
 
@@ -84,7 +84,7 @@ impl Tops {
     {
         let number = count_of(self.globals.len())?;
         self.scope
-            .define(alloc, line, b'@', name.as_slice(), Top::Global(number))?;
+            .define_owned(alloc, line, b'@', name.as_slice(), Top::Global(number))?;
         self.globals.push(copied(alloc, name.as_slice())?)?;
         Ok(())
     }
@@ -127,13 +127,13 @@ impl Tops {
 
     /// With a function. Its own names are given.
     #[tactic(auto, unfolding(crate::specs::Tops::with_function))]
-    pub(crate) fn add_function(
+    pub(crate) fn add_function<'a>(
         &mut self,
         alloc: Global,
         line: u32,
-        head: &Head,
-        body: &[Numbered],
-    ) -> Result<Locals, ResolveRefusal>
+        head: &'a Head,
+        body: &'a [Numbered],
+    ) -> Result<Locals<'a>, ResolveRefusal>
         ensures names { Gives (λ _. self.new) result (tops.with_function line self.old head.now body.now) }
         ensures own { IfOk result (λ own. locals_of line head.now body.now ≡ Ok own) }
     {
