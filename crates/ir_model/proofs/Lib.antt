@@ -3,4 +3,5 @@ pub mod Lists
 pub mod Stores
 pub mod Pointers
 pub mod Same
+pub mod Chain
 pub mod Indices
