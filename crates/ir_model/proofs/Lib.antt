@@ -4,4 +4,5 @@ pub mod Stores
 pub mod Pointers
 pub mod Same
 pub mod Chain
+pub mod NoCalls
 pub mod Indices
