@@ -7,7 +7,8 @@ use Rattle.ir_types.specs.declared.inst.Inst.{Inst}
 use Rattle.ir_model.specs.declared.value.Value.{Value}
 use Rattle.ir_model.specs.Values.{Lane, Env, with_value, value_of}
 use Rattle.ir_model.specs.Step.{State}
-use Rattle.ir_model.specs.Run.{is_phi, arm_from, arm_of, with_phi, then_ends, chosen, run_insts, enter}
+use Rattle.ir_model.specs.Run.{is_phi, arm_from, arm_of, with_phi, chosen}
+use Rattle.ir_model.specs.CallFree.{then_ends, run_insts, enter}
 use Rattle.ir_interp.specs.declared.blocks.Arrival.{Arrival}
 use Rattle.ir_interp.specs.Blocks.{arrived}
 

@@ -7,8 +7,9 @@ use Rattle.ir_types.specs.declared.func.Block.{Block}
 use Rattle.ir_model.specs.declared.value.Value.{Value}
 use Rattle.ir_model.specs.Values.{Env, with_value, value_of, type_of}
 use Rattle.ir_model.specs.Memory.{Memory}
-use Rattle.ir_model.specs.Step.{State, effect_of, after_effect, step_of}
-use Rattle.ir_model.specs.Run.{is_terminator, leave, then_ends, run_insts, run_block, end_on, run_blocks}
+use Rattle.ir_model.specs.Step.{State, effect_of}
+use Rattle.ir_model.specs.Run.{is_terminator, leave}
+use Rattle.ir_model.specs.CallFree.{after_effect, step_of, then_ends, run_insts, run_block, end_on, run_blocks}
 use Rattle.ir_interp.specs.declared.blocks.Ended.{Ended as Kept}
 use Rattle.ir_interp.specs.Effects.{effect_with, state_if}
 use Rattle.ir_interp.specs.Blocks.{ended_in}

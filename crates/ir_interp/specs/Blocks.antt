@@ -5,7 +5,8 @@ use Rattle.ir_types.specs.declared.ty.Ty.{Ty}
 use Rattle.ir_types.specs.declared.inst.Inst.{Inst}
 use Rattle.ir_model.specs.Values.{Lane, Env, with_value}
 use Rattle.ir_model.specs.Step.{State}
-use Rattle.ir_model.specs.Run.{Ended, Stops, Returns, Goes, run_insts, enter}
+use Rattle.ir_model.specs.Run.{Ended, Stops, Returns, Goes}
+use Rattle.ir_model.specs.CallFree.{run_insts, enter}
 use Rattle.ir_interp.specs.declared.blocks.Ended.{Ended as Kept}
 use Rattle.ir_interp.specs.declared.blocks.Ended.TheVariants.{Stops as KeptStops, Returns as KeptReturns, Goes as KeptGoes}
 use Rattle.ir_interp.specs.declared.blocks.Arrival.{Arrival}

@@ -5,7 +5,8 @@
 ghost use Rattle.std.specs.Prelude.{◌≡◌, IfOk, OnOk};
 ghost use Rattle.std.specs.Option.{option_copied};
 ghost use Rattle.ir_model.specs.Step.{State as ModelState};
-ghost use Rattle.ir_model.specs.Run.{is_terminator, is_phi, chosen, leave, run_insts, arm_from, arm_of, enter, run_block};
+ghost use Rattle.ir_model.specs.Run.{is_terminator, is_phi, chosen, leave, arm_from, arm_of};
+ghost use Rattle.ir_model.specs.CallFree.{run_insts, enter, run_block};
 ghost use Rattle.ir_interp.specs.Slots.{env_in, types_in};
 ghost use Rattle.ir_interp.specs.Effects.{state_in};
 ghost use Rattle.ir_interp.specs.Blocks.{ended_in, is_case, arrived, IsEntry};

@@ -4,7 +4,8 @@
 
 ghost use Rattle.std.specs.Prelude.{◌≡◌, None, IfOk, slice_get};
 ghost use Rattle.std.specs.Option.{option_copied};
-ghost use Rattle.ir_model.specs.Run.{functions_of, run_blocks, run_func};
+ghost use Rattle.ir_model.specs.Run.{functions_of};
+ghost use Rattle.ir_model.specs.CallFree.{run_blocks, run_func};
 ghost use Rattle.ir_interp.specs.Slots.{types_in};
 ghost use Rattle.ir_interp.specs.Effects.{state_in};
 

@@ -22,7 +22,7 @@ mod values;
 mod vectors;
 
 use functions::{function_at, run_func};
-use ir_model::{Memory, Outcome, Values};
+use ir_model::{Memory, Outcome, Values, runs_are_call_free};
 use ir_types::Module;
 use std::alloc::Global;
 use vx_list::OutOfMemory;
@@ -39,6 +39,7 @@ pub fn run(
 ) -> Result<Outcome, OutOfMemory>
     ensures { IfOk result (λ outcome. outcome ≡ run_of m.now func args.now memory bound) }
 {
+    runs_are_call_free();
     match function_at(m.items.as_slice(), func) {
         Some(found) => run_func(alloc, m.globals.len(), found, args, memory, bound),
         None => Ok(Outcome::Undefined),

@@ -7,8 +7,9 @@ ghost use Rattle.ir_types.specs.declared.ty.Ty.{Ty};
 ghost use Rattle.ir_types.specs.declared.op.Op.TheVariants.{Load, Store, Alloca};
 ghost use Rattle.ir_model.specs.Memory.{Memory};
 ghost use Rattle.ir_model.specs.Accesses.{value_effect};
-ghost use Rattle.ir_model.specs.Step.{result_of, effect_of, step_of};
+ghost use Rattle.ir_model.specs.Step.{result_of, effect_of};
 ghost use Rattle.ir_model.specs.Values.{pointer_of};
+ghost use Rattle.ir_model.specs.CallFree.{step_of};
 ghost use Rattle.ir_interp.specs.Slots.{types_in};
 ghost use Rattle.ir_interp.specs.Effects.{effect_in, state_in, state_if};
 

@@ -3,4 +3,6 @@ pub mod Lists
 pub mod Stores
 pub mod Pointers
 pub mod Same
+pub mod Chain
+pub mod NoCalls
 pub mod Indices

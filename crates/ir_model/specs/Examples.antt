@@ -1,6 +1,11 @@
--- Worked runs: two stores, an undefined run, and a run that is cut.
-use Rattle.std.specs.Prelude.{◌≡◌, refl, ℕ, pos, false, Option, None, Some, List, [], ◌∷◌, codes}
+-- Worked runs: two stores, an undefined run, a run that is cut, and two modules of which one may not stand for the other.
+use Rattle.std.specs.Prelude.{◌≡◌, refl, ℕ, pos, false, Option, None, Some, List, [], ◌∷◌, replicate, codes}
 use Rattle.std.specs.Int.{int_wrap}
+use Rattle.std.proofs.Common.{subst}
+use Rattle.std.proofs.Math.Dec.{lit≤}
+use Rattle.std.proofs.Math.Facts.{sfits_lit}
+use Rattle.std.proofs.lemmas.List.Elements.{All-nil, All-cons, All-replicate}
+use Rattle.vx_num.specs.Width.{IsLane}
 use Rattle.ir_types.specs.declared.id.Id.{Id}
 use Rattle.ir_types.specs.declared.ty.Ty.{Ty}
 use Rattle.ir_types.specs.declared.ty.Ty.TheVariants.{Void, Int, Ptr}
@@ -16,7 +21,10 @@ use Rattle.ir_types.specs.declared.module.Module.{Module}
 use Rattle.ir_model.specs.declared.value.Value.TheVariants.{Ptr as PtrValue}
 use Rattle.ir_model.specs.declared.outcome.Outcome.TheVariants.{Returned, Undefined, Cut}
 use Rattle.ir_model.specs.Values.{Lane}
+use Rattle.ir_model.specs.Memory.{Memory}
 use Rattle.ir_model.specs.Run.{run_of}
+use Rattle.ir_model.specs.Fits.{ObjectFits, Fits}
+use Rattle.ir_model.specs.Refines.{ModuleRefines}
 
 abbrev pub id : ℕ → Id
 id k = record { region = 0; k = k }
@@ -75,3 +83,31 @@ run_of_poison = refl
 -- at bound 0 no block runs
 run_of_bound_0 : run_of (module_b two_stores) 0 (PtrValue (Some (0, pos 0)) ∷ []) (poison_bytes ∷ []) 0 ≡ Cut (poison_bytes ∷ [])
 run_of_bound_0 = refl
+
+-- ---- two modules that do not refine
+
+-- the pointer to the start of an object of eight poison bytes fits
+abbrev eight_bytes : Memory
+eight_bytes = replicate 8 None ∷ []
+
+fits_b : Fits (module_b two_stores) (func_b two_stores) (PtrValue (Some (0, pos 0)) ∷ []) eight_bytes
+fits_b = record {
+  typed = ((lit≤ tt, sfits_lit tt), tt);
+  objects = All-cons ObjectFits (replicate 8 None) [] (lit≤ tt, All-replicate (IsLane 8) 8 None tt) (All-nil ObjectFits);
+  globals = lit≤ tt;
+}
+
+abbrev only_second : List Inst
+only_second =
+    inst 1 (Some (codes "q")) Ptr (Gep (One (Int 8)) false) (Val (id 0) ∷ number 64 4 ∷ [])
+    ∷ inst 3 None (Int 32) (Store 4) (number 32 8 ∷ Val (id 1) ∷ [])
+    ∷ inst 4 None Void Ret [] ∷ []
+
+abbrev IsNone : Option ℕ → Type 0
+IsNone None = Unit {0}
+IsNone (Some n) = ⊥
+
+-- without its first store a byte stays poison that is 7 in the run of both, and a number may not become poison
+lost_store : ModuleRefines (module_b only_second) (module_b two_stores) → ⊥
+unfolding int_wrap
+lost_store r = subst IsNone (r.runs 0 (func_b two_stores) refl (PtrValue (Some (0, pos 0)) ∷ []) eight_bytes fits_b 1).1.0.0 tt

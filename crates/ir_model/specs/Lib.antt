@@ -7,6 +7,7 @@ pub mod Addresses
 pub mod Accesses
 pub mod Step
 pub mod Run
+pub mod CallFree
 pub mod Fits
 pub mod Refines
 pub mod Examples

@@ -1,6 +1,7 @@
 -- When one outcome, and when one module, may stand for another.
 use Rattle.std.specs.Prelude.{◌≡◌, ℕ, Option, None, Some, List, slice_get, ⊤}
 use Rattle.std.specs.List.{AllZip}
+use Rattle.ir_types.specs.declared.func.Param.{Param}
 use Rattle.ir_types.specs.declared.func.Func.{Func}
 use Rattle.ir_types.specs.declared.module.Item.{Item}
 use Rattle.ir_types.specs.declared.module.Item.TheVariants.{Kept, Opaque, Func as FuncItem}
@@ -26,12 +27,19 @@ OutcomeRefines (Returned new new_memory) (Returned old old_memory) = ResultRefin
 OutcomeRefines (Cut new) (Cut old) = MemoryRefines new old
 OutcomeRefines _ _ = ⊥
 
--- two functions with the same header
+-- two parameters as they are written: all but their ids
+pub record SameParam (new old : Param) : Type 0 where
+  pub name : new.name ≡ old.name
+  pub ty : new.ty ≡ old.ty
+  pub attrs : new.attrs ≡ old.attrs
+  pub noalias : new.noalias ≡ old.noalias
+
+-- two functions whose headers are written alike
 pub record SameHeader (new old : Func) : Type 0 where
   pub before : new.before ≡ old.before
   pub ret : new.ret ≡ old.ret
   pub name : new.name ≡ old.name
-  pub params : new.params ≡ old.params
+  pub params : AllZip SameParam new.params old.params
   pub after : new.after ≡ old.after
 
 -- kept lines and opaque functions are the same, functions of the profile have the same header
@@ -41,12 +49,10 @@ SameItem (Opaque new) (Opaque old) = new ≡ old
 SameItem (FuncItem new) (FuncItem old) = SameHeader new old
 SameItem _ _ = ⊥
 
--- the new module may stand for the old one: the same items in number, order, names and headers, and for every function of the
--- profile, all fitting arguments and memories and every bound on blocks run, an outcome that refines the old one
+-- the new module may stand for the old one: the same items in number, order and headers, and for every function of the profile, all
+-- fitting arguments and memories and every bound on blocks run, an outcome that refines the old one
 pub record ModuleRefines (new old : Module) : Type 0 where
   pub items : AllZip SameItem new.items old.items
-  pub globals : new.globals ≡ old.globals
-  pub layout : new.big_endian_line ≡ old.big_endian_line
   pub runs : (func : ℕ) (f : Func) → slice_get (functions_of old.items) func ≡ Some f →
       (args : List Value) (memory : Memory) → Fits old f args memory → (bound : ℕ) →
       OutcomeRefines (run_of new func args memory bound) (run_of old func args memory bound)

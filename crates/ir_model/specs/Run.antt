@@ -1,7 +1,8 @@
 -- Bounded runs: blocks with their phis and terminators, and a function from its start.
 --
 -- Before each block the bound is looked at: at 0 the run is cut with the memory as it is, else it falls by one and the block runs
--- with its terminator. A block's phis read their values at once, on the edge that was taken.
+-- with its terminator. A block's phis read their values at once, on the edge that was taken. What calls come to is a parameter of a
+-- block and of a function; it is undefined behaviour as long as calls are not read.
 use Rattle.std.specs.Prelude.{ℕ, zero, suc, ◌++◌, Bool, true, false, not, ◌&&◌, ◌||◌, Option, None, Some, List, [], ◌∷◌, length, map, cond, nat_eq, nat_le, slice_get}
 use Rattle.std.specs.List.{list_any}
 use Rattle.ir_types.specs.declared.id.Id.{Id}
@@ -23,9 +24,9 @@ use Rattle.ir_model.specs.declared.outcome.Outcome.{Outcome}
 use Rattle.ir_model.specs.declared.outcome.Outcome.TheVariants.{Returned, Undefined, Cut}
 use Rattle.ir_model.specs.Values.{Lane, Env, same_id, with_value, value_of}
 use Rattle.ir_model.specs.Memory.{Memory}
-use Rattle.ir_model.specs.Step.{State, step_of}
+use Rattle.ir_model.specs.Step.{State, Went, Lost, Halts, On, then_go, Back, Reached, Calls, step}
 
--- how a block ends: in undefined behaviour, with a return, or on the edge to a block
+-- how a terminator ends its block: in undefined behaviour, with a return, or on the edge to a block
 pub data Ended : Type 0 where
   Stops : Ended
   Returns : Option Value → Memory → Ended
@@ -58,15 +59,23 @@ leave _ _ s = Stops
 
 -- ---- blocks
 
-abbrev pub then_ends : Option State → (State → Ended) → Ended
-then_ends None more = Stops
-then_ends (Some s) more = more s
+-- how a block of a function ended: with what the function gives back, or on the edge to a block
+pub data Exit : Type 0 where
+  Leaves : Back → Exit
+  To : ℕ → Reached → Exit
+
+abbrev pub exit_with : ℕ → Ended → Went Exit
+exit_with left Stops = Lost
+exit_with left (Returns v m) = On (Leaves (record { result = v; memory = m; left = left }))
+exit_with left (Goes to s) = On (To to (record { state = s; left = left }))
 
 -- instructions in order, up to the terminator
-abbrev pub run_insts : (Id → Ty) → List Inst → State → Ended
-run_insts types [] s = Stops
-run_insts types (i ∷ is) s =
-    cond (is_terminator i.op) (leave i.op (map (value_of s.env) i.opds) s) (then_ends (step_of types i s) (run_insts types is))
+abbrev pub run_insts : (Id → Ty) → Calls → List Inst → Reached → Went Exit
+run_insts types calls [] r = Lost
+run_insts types calls (i ∷ is) r =
+    cond (is_terminator i.op)
+    (exit_with r.left (leave i.op (map (value_of r.state.env) i.opds) r.state))
+    (then_go (step types calls i r) (run_insts types calls is))
 
 -- the operand that a phi brings from a block
 abbrev pub arm_from : ℕ → List ℕ → List Opd → Option Opd
@@ -86,29 +95,22 @@ abbrev pub with_phi : Env → Id → State → Option Opd → Option State
 with_phi edge id s None = None
 with_phi edge id s (Some o) = Some (record { env = with_value s.env id (value_of edge o); memory = s.memory })
 
+abbrev pub reached_if : ℕ → Option State → Went Reached
+reached_if left None = Lost
+reached_if left (Some s) = On (record { state = s; left = left })
+
 -- the instructions of a block that is entered from a block (`None` at the start), in an environment on that edge
-abbrev pub enter : (Id → Ty) → Option ℕ → Env → List Inst → State → Ended
-enter types from edge [] s = Stops
-enter types from edge (i ∷ is) s =
+abbrev pub enter : (Id → Ty) → Calls → Option ℕ → Env → List Inst → Reached → Went Exit
+enter types calls from edge [] r = Lost
+enter types calls from edge (i ∷ is) r =
     cond (is_phi i.op)
-    (then_ends (with_phi edge i.id s (arm_of from i.op i.opds)) (enter types from edge is))
-    (run_insts types (i ∷ is) s)
+    (then_go (reached_if r.left (with_phi edge i.id r.state (arm_of from i.op i.opds))) (enter types calls from edge is))
+    (run_insts types calls (i ∷ is) r)
 
 -- a block, if it is there
-abbrev pub run_block : (Id → Ty) → Option ℕ → State → Option Block → Ended
-run_block types from s None = Stops
-run_block types from s (Some b) = enter types from s.env b.insts s
-
-abbrev pub end_on : Ended → (ℕ → State → Outcome) → Outcome
-end_on Stops next = Undefined
-end_on (Returns v m) next = Returned v m
-end_on (Goes to s) next = next to s
-
--- blocks from the one at a place on, under a bound
-abbrev pub run_blocks : (Id → Ty) → List Block → ℕ → Option ℕ → ℕ → State → Outcome
-run_blocks types bs zero from at s = Cut s.memory
-run_blocks types bs (suc bound) from at s =
-    end_on (run_block types from s (slice_get bs at)) (λ to t. run_blocks types bs bound (Some at) to t)
+abbrev pub run_block : (Id → Ty) → Calls → Option ℕ → Reached → Option Block → Went Exit
+run_block types calls from r None = Lost
+run_block types calls from r (Some b) = enter types calls from r.state.env b.insts r
 
 -- ---- functions
 
@@ -149,11 +151,40 @@ noalias_holds globals before (p ∷ ps) (v ∷ vs) =
     (not p.noalias || is_unshared globals v (before ++ vs)) && noalias_holds globals (v ∷ before) ps vs
 noalias_holds globals before _ _ = true
 
-abbrev pub run_func : ℕ → Func → List Value → Memory → ℕ → Outcome
-run_func globals f args m bound =
+-- what functions come to from a block on, with the block that it is entered from
+abbrev pub Runs : Type 0
+Runs = Func → Option ℕ → ℕ → Reached → Went Back
+
+-- what calls come to, where it is known what functions come to
+abbrev pub Ties : Type 0
+Ties = Runs → Calls
+
+-- calls have no meaning yet
+abbrev pub no_calls : Ties
+no_calls go callee vs m left = Lost
+
+abbrev pub on_exit : (ℕ → Reached → Went Back) → Exit → Went Back
+on_exit go (Leaves back) = On back
+on_exit go (To to r) = go to r
+
+-- a block at a place and what comes after it, under a bound: at 0 the run is cut, else the bound falls by one
+abbrev pub turn_at : Calls → Runs → Func → Option ℕ → ℕ → State → ℕ → Went Back
+turn_at calls go f from at s zero = Halts s.memory
+turn_at calls go f from at s (suc left) =
+    then_go (run_block (types_of f) calls from (record { state = s; left = left }) (slice_get f.blocks at)) (on_exit (go f (Some at)))
+
+-- functions from a block on. What recursion goes by falls with each block, as the bound does; it begins as the bound, which a call
+-- never raises, and so the bound ends first
+abbrev pub runs : Ties → ℕ → Runs
+runs tie zero f from at r = Halts r.state.memory
+runs tie (suc fuel) f from at r = turn_at (tie (runs tie fuel)) (runs tie fuel) f from at r.state r.left
+
+-- a function on arguments and a memory, in a module of so many globals
+abbrev pub run_func : Ties → ℕ → Func → List Value → Memory → ℕ → Went Back
+run_func tie globals f args m bound =
     cond (noalias_holds globals [] f.params args)
-    (run_blocks (types_of f) f.blocks bound None 0 (record { env = start_env f.params args; memory = m }))
-    Undefined
+    (runs tie bound f None 0 (record { state = record { env = start_env f.params args; memory = m }; left = bound }))
+    Lost
 
 -- ---- modules
 
@@ -164,9 +195,14 @@ functions_of (Kept _ ∷ items) = functions_of items
 functions_of (Opaque _ ∷ items) = functions_of items
 functions_of (FuncItem f ∷ items) = f ∷ functions_of items
 
+abbrev pub outcome_of : Went Back → Outcome
+outcome_of Lost = Undefined
+outcome_of (Halts m) = Cut m
+outcome_of (On back) = Returned back.result back.memory
+
 abbrev pub run_found : ℕ → Option Func → List Value → Memory → ℕ → Outcome
 run_found globals None args m bound = Undefined
-run_found globals (Some f) args m bound = run_func globals f args m bound
+run_found globals (Some f) args m bound = outcome_of (run_func no_calls globals f args m bound)
 
 -- the outcome of the function of a number, from 0 among the functions of the profile
 abbrev pub run_of : Module → ℕ → List Value → Memory → ℕ → Outcome

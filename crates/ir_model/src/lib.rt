@@ -4,9 +4,11 @@
 //! memories and outcomes have. Nothing here fails but for want of memory.
 #![tactic(auto)]
 
+mod laws;
 mod outcome;
 mod value;
 
+pub use laws::{modules_refine, outcomes_refine, runs_are_call_free};
 pub use outcome::Outcome;
 pub use value::Value;
 use vx_list::Seq;

@@ -16,10 +16,13 @@ use Rattle.ir_model.specs.declared.outcome.Outcome.TheVariants.{Undefined}
 use Rattle.ir_model.specs.Values.{Env}
 use Rattle.ir_model.specs.Memory.{Memory}
 use Rattle.ir_model.specs.Step.{State}
-use Rattle.ir_model.specs.Run.{Ended, Stops, Returns, Goes, run_insts, enter, end_on, run_blocks, start_env, types_of, noalias_holds, run_func, functions_of, run_found}
+use Rattle.ir_model.specs.Run.{Ended, Stops, Returns, Goes, start_env, types_of, noalias_holds, functions_of, run_of}
 use Rattle.ir_model.specs.Fits.{Fits}
-use Rattle.ir_model.specs.Refines.{OutcomeRefines, SameHeader, SameItem, ModuleRefines}
+use Rattle.ir_model.specs.Refines.{OutcomeRefines, SameParam, SameHeader, SameItem, ModuleRefines}
 use Rattle.ir_model.proofs.Same.{memory_same, outcome_same, zip_same}
+use Rattle.ir_model.proofs.NoCalls.{run_plain}
+use Rattle.ir_model.proofs.Chain.{param_same, header_same, item_same}
+use Rattle.ir_model.specs.CallFree.{run_insts, enter, end_on, run_blocks, run_func, run_found, plain_run_of}
 use Rattle.vx_serial.specs.Pair.{is_straight, is_void, is_empty, is_first_param, is_one_block, is_first_func, leads_at_start, paired, or_same, pair_in_blocks, pair_in_func, pair_in_items, pair_of}
 use Rattle.rf_pack.proofs.Known.{Known, start_offsets, known_at_start}
 use Rattle.rf_pack.proofs.Statements.{both_true, true_of}
@@ -87,24 +90,16 @@ func_refines m f args memory bound fits true first = by_noalias (noalias_holds (
         blocks_refine (types_of f) (types_of (pair_in_func f)) (start_env f.params args) f.params f.blocks memory bound one
         (known_at_start (start_env f.params args) f.params (start_offsets (length memory) f.params args fits.typed))
 
-same_header : (f : Func) → SameHeader f f
-same_header f = record { before = refl; ret = refl; name = refl; params = refl; after = refl }
-
-same_item : (i : Item) → SameItem i i
-same_item (Kept text) = refl
-same_item (Opaque text) = refl
-same_item (FuncItem f) = same_header f
-
 items_same : (items : List Item) → AllZip SameItem (pair_in_items items) items
 items_same [] = tt
-items_same (Kept text ∷ items) = zip_same SameItem same_item (Kept text ∷ items)
-items_same (Opaque text ∷ items) = zip_same SameItem same_item (Opaque text ∷ items)
-items_same (FuncItem f ∷ i ∷ items) = zip_same SameItem same_item (FuncItem f ∷ i ∷ items)
+items_same (Kept text ∷ items) = zip_same SameItem item_same (Kept text ∷ items)
+items_same (Opaque text ∷ items) = zip_same SameItem item_same (Opaque text ∷ items)
+items_same (FuncItem f ∷ i ∷ items) = zip_same SameItem item_same (FuncItem f ∷ i ∷ items)
 items_same (FuncItem f ∷ []) = (by_test (is_first_func f), tt)
   where
     by_test : (b : Bool) → SameHeader (cond b (pair_in_func f) f) f
-    by_test true = record { before = refl; ret = refl; name = refl; params = refl; after = refl }
-    by_test false = same_header f
+    by_test true = record { before = refl; ret = refl; name = refl; params = zip_same SameParam param_same f.params; after = refl }
+    by_test false = header_same f
 
 runs_refine : (m : Module) (items : List Item) (func : ℕ) (f : Func) → slice_get (functions_of items) func ≡ Some f →
     (args : List Value) (memory : Memory) → Fits m f args memory → (bound : ℕ) →
@@ -125,7 +120,8 @@ runs_refine m (FuncItem g ∷ []) zero f found args memory fits bound =
 pub pair_refines-proof : (m : Module) → ModuleRefines (pair_of m) m
 pair_refines-proof m = record {
   items = items_same m.items;
-  globals = refl;
-  layout = refl;
-  runs = runs_refine m m.items;
+  runs = λ func f found args memory fits bound.
+      subst (λ o. OutcomeRefines o (run_of m func args memory bound)) (sym (run_plain (pair_of m) func args memory bound))
+      (subst (λ o. OutcomeRefines (plain_run_of (pair_of m) func args memory bound) o) (sym (run_plain m func args memory bound))
+      (runs_refine m m.items func f found args memory fits bound));
 }

@@ -9,8 +9,9 @@ use Rattle.ir_model.specs.declared.value.Value.{Value}
 use Rattle.ir_model.specs.Values.{Lane, Env, pointer_of, moved, same_id, with_value, value_of, type_of}
 use Rattle.ir_model.specs.Memory.{Memory, lane_bytes, row_bytes, stored}
 use Rattle.ir_model.specs.Accesses.{memory_effect, value_effect}
-use Rattle.ir_model.specs.Step.{State, result_of, after_effect, step_of}
-use Rattle.ir_model.specs.Run.{Ended, Stops, is_terminator, then_ends, run_insts}
+use Rattle.ir_model.specs.Step.{State, result_of}
+use Rattle.ir_model.specs.Run.{Ended, Stops, is_terminator}
+use Rattle.ir_model.specs.CallFree.{after_effect, step_of, then_ends, run_insts}
 use Rattle.vx_serial.specs.declared.pairing.scan.LedStore.{LedStore}
 use Rattle.vx_serial.specs.Pair.{is_statement_of, is_straight, is_memory, Lead, Leads, leads_after, led_store_of, both_stored, joined_by_distance, is_lead, joined, joined_to, paired_with, paired}
 use Rattle.rf_pack.proofs.Known.{LeadHolds, Known}

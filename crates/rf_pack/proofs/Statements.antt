@@ -20,8 +20,9 @@ use Rattle.ir_model.specs.Memory.{Memory, lane_bytes, lane_from, stored, loaded}
 use Rattle.ir_model.specs.Sizes.{bytes_in}
 use Rattle.ir_model.specs.Addresses.{stepped}
 use Rattle.ir_model.specs.Accesses.{Effect, memory_effect, value_effect, store_effect, bytes_of}
-use Rattle.ir_model.specs.Step.{State, result_of, effect_of, after_effect}
+use Rattle.ir_model.specs.Step.{State, result_of, effect_of}
 use Rattle.ir_model.specs.Run.{is_terminator, is_phi}
+use Rattle.ir_model.specs.CallFree.{after_effect}
 use Rattle.vx_serial.specs.declared.pairing.scan.LedStore.{LedStore}
 use Rattle.vx_serial.specs.Pair.{is_int, is_ptr, is_byte, is_number, is_local, is_plain, is_operand, is_literal, is_statement_of, is_memory, Lead, Leads, set_lead, lead_on, leads_by, led_store, led_store_by}
 use Rattle.rf_pack.proofs.Known.{Known, known-set, lead_on-holds}

@@ -7,8 +7,9 @@ use Rattle.ir_types.specs.declared.op.Op.{Op}
 use Rattle.ir_types.specs.declared.op.Op.TheVariants.{Ret}
 use Rattle.ir_types.specs.declared.inst.Inst.{Inst}
 use Rattle.ir_model.specs.Values.{Env, value_of}
-use Rattle.ir_model.specs.Step.{State, after_effect, step_of}
-use Rattle.ir_model.specs.Run.{Ended, Stops, Returns, Goes, is_terminator, is_phi, leave, then_ends, run_insts, enter, with_phi, arm_of}
+use Rattle.ir_model.specs.Step.{State}
+use Rattle.ir_model.specs.Run.{Ended, Stops, Returns, Goes, is_terminator, is_phi, leave, with_phi, arm_of}
+use Rattle.ir_model.specs.CallFree.{after_effect, step_of, then_ends, run_insts, enter}
 use Rattle.vx_serial.specs.Pair.{is_statement_of, is_named, is_statement, is_void, is_return_of, is_return, is_last, is_straight, is_memory}
 use Rattle.rf_pack.proofs.Statements.{both_true, true_of, Plain, plain}
 

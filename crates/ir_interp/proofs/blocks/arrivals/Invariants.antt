@@ -2,7 +2,7 @@ use Rattle.std.proofs.Common.{◌≡◌, length, drop}
 use Rattle.ir_types.specs.declared.id.Id.{Id}
 use Rattle.ir_types.specs.declared.ty.Ty.{Ty}
 use Rattle.ir_model.specs.Step.{State}
-use Rattle.ir_model.specs.Run.{enter}
+use Rattle.ir_model.specs.CallFree.{enter}
 use Rattle.ir_interp.specs.Slots.{env_in}
 use Rattle.ir_interp.specs.Blocks.{arrived}
 use Rattle.ir_interp.proofs.blocks.arrivals.Given as goal

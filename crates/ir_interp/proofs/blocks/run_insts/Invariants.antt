@@ -1,5 +1,5 @@
 use Rattle.std.proofs.Common.{◌≡◌, drop}
-use Rattle.ir_model.specs.Run.{run_insts}
+use Rattle.ir_model.specs.CallFree.{run_insts}
 use Rattle.ir_interp.specs.Slots.{types_in}
 use Rattle.ir_interp.specs.Effects.{state_in}
 use Rattle.ir_interp.proofs.blocks.run_insts.Given as goal

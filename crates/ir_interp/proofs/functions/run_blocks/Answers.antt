@@ -1,6 +1,6 @@
 use Rattle.std.proofs.Common.{◌+◌, ◌-◌, Some, sym, ap, ◌∙◌, arith}
 use Rattle.ir_model.specs.declared.outcome.Outcome.TheVariants.{Returned}
-use Rattle.ir_model.specs.Run.{end_on, run_blocks}
+use Rattle.ir_model.specs.CallFree.{end_on, run_blocks}
 use Rattle.ir_interp.specs.Slots.{types_in}
 use Rattle.ir_interp.specs.Effects.{state_in}
 use Rattle.ir_interp.specs.Blocks.{ended_in}

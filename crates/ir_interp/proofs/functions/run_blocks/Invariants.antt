@@ -1,5 +1,5 @@
 use Rattle.std.proofs.Common.{◌≡◌, ◌-◌, None}
-use Rattle.ir_model.specs.Run.{run_blocks}
+use Rattle.ir_model.specs.CallFree.{run_blocks}
 use Rattle.ir_interp.specs.Slots.{types_in}
 use Rattle.ir_interp.specs.Effects.{state_in}
 use Rattle.ir_interp.proofs.functions.run_blocks.Given as goal

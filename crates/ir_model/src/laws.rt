@@ -1,0 +1,29 @@
+//! Laws of runs and of refinement.
+//!
+//! Each law is the contract of a function that does nothing and that no program calls; a caller that calls it has the law.
+
+ghost use Rattle.std.specs.Prelude.{◌≡◌, ℕ, ◌≤◌, List, length};
+ghost use Rattle.ir_types.specs.declared.module.Module.{Module};
+ghost use Rattle.ir_model.specs.declared.value.Value.{Value};
+ghost use Rattle.ir_model.specs.declared.outcome.Outcome.{Outcome};
+ghost use Rattle.ir_model.specs.Memory.{Memory};
+ghost use Rattle.ir_model.specs.Run.{run_of};
+ghost use Rattle.ir_model.specs.CallFree.{plain_run_of};
+ghost use Rattle.ir_model.specs.Refines.{OutcomeRefines, ModuleRefines};
+
+/// An outcome may stand for itself, and outcomes refine in a chain.
+pub fn outcomes_refine()
+    ensures same { (o : Outcome) → OutcomeRefines o o }
+    ensures chain { (a b c : Outcome) → OutcomeRefines a b → OutcomeRefines b c → OutcomeRefines a c }
+{}
+
+/// A module may stand for itself, and modules refine in a chain, where the one in the middle has no more globals than the last.
+pub fn modules_refine()
+    ensures same { (m : Module) → ModuleRefines m m }
+    ensures chain { (a b c : Module) → length b.globals ≤ length c.globals → ModuleRefines a b → ModuleRefines b c → ModuleRefines a c }
+{}
+
+/// As long as calls are not read, a run is what it is where a call has no meaning.
+pub fn runs_are_call_free()
+    ensures { (m : Module) (func : ℕ) (args : List Value) (memory : Memory) (bound : ℕ) → run_of m func args memory bound ≡ plain_run_of m func args memory bound }
+{}
