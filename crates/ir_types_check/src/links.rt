@@ -1,20 +1,25 @@
 //! `Linked` and `Cases`: what the names that a statement uses stand for.
 //!
-//! The entry points are `link`, for its own line, `cases_of`, for the cases behind it, and `op_of`, its operation with these. The
-//! first two fail at the first name that is unknown, all for want of memory.
+//! The entry points are `link`, for its own line, `cases_of`, for the cases after it, and `op_of`, its operation with these. The
+//! first two fail at the first name that is unknown, all for want of memory. As a name is looked up once, `link` tells too whether
+//! each operand has the type that is written for it.
 
-ghost use Rattle.std.specs.Prelude.{◌≡◌, ◌+◌, [], IfOk, map};
+ghost use Rattle.std.specs.Prelude.{◌≡◌, ◌+◌, ◌&&◌, [], IfOk, OnOk, map};
+ghost use Rattle.std.specs.List.{list_all};
 ghost use Rattle.ir_types_check.specs.Answers.{Gives};
 ghost use Rattle.ir_types_check.specs.Links as links;
 ghost use Rattle.ir_types_check.specs.Scope.{meaning};
+ghost use Rattle.ir_types_check.specs.Typed as typed;
 
 use crate::ResolveRefusal;
+use crate::context::Context;
 use crate::edges::Ends;
 use crate::locals::Meaning;
 use crate::scope::{Scope, with_sigil};
 use crate::tops::Top;
+use crate::types::{args_fit, same_ty};
 use ir_line::{Arg, Line, Numbered, Stmt, Written};
-use ir_types::{Bytes, Id, Literal, Lits, Numbers, Op, Opd, Opds};
+use ir_types::{Bytes, Id, Literal, Lits, Numbers, Op, Opd, Opds, Ty};
 use std::alloc::{AllocError, Global};
 use vx_list::TryClone;
 use vx_num::Lane;
@@ -40,19 +45,22 @@ fn in_module(base: u32, place: u32) -> Result<u32, AllocError>
     base.checked_add(place).ok_or(AllocError)
 }
 
-/// A value.
+/// A value; whether it has this type goes into `fits`.
 fn value_of(
     alloc: Global,
-    locals: &Scope<Meaning>,
-    base: u32,
+    known: &Context,
     line: u32,
     name: &[u8],
+    ty: Ty,
+    fits: &mut bool,
 ) -> Result<Opd, ResolveRefusal>
-    ensures { Gives (λ opd. opd) result (links.value_of base line name.now (meaning name.now locals.now)) }
+    ensures opd { Gives (λ opd. opd) result (links.value_of known.now.base line name.now (meaning name.now known.now.locals.now)) }
+    ensures fits { OnOk result (fits.new ≡ (fits.old && typed.is_value_of ty (meaning name.now known.now.locals.now))) }
 {
-    match locals.get(name) {
-        Some(Meaning::Value { place, ty: _ }) => {
-            let k = in_module(base, *place)?;
+    match known.locals.get(name) {
+        Some(Meaning::Value { place, ty: found }) => {
+            let k = in_module(known.base, *place)?;
+            *fits = *fits && same_ty(*found, ty);
             Ok(Opd::Val(Id { region: 0, k }))
         }
         _ => {
@@ -111,39 +119,41 @@ fn callee_of(alloc: Global, tops: &Scope<Top>, line: u32, name: &[u8]) -> Result
     }
 }
 
-/// The operand that is written.
+/// The operand that is written; whether it has its written type goes into `fits`.
+#[tactic(auto, using(crate::proofs::Binding::and_true))]
 fn opd_of(
     alloc: Global,
-    tops: &Scope<Top>,
-    locals: &Scope<Meaning>,
-    base: u32,
+    known: &Context,
     line: u32,
-    written: &Written,
+    arg: &Arg,
+    fits: &mut bool,
 ) -> Result<Opd, ResolveRefusal>
-    ensures { Gives (λ opd. opd) result (links.opd_of tops.now locals.now base line written.now) }
+    ensures opd { Gives (λ opd. opd) result (links.opd_of known.now.tops.now known.now.locals.now known.now.base line arg.now.opd) }
+    ensures fits { OnOk result (fits.new ≡ (fits.old && typed.arg_fits known.now.locals.now arg.now)) }
 {
-    match written {
-        Written::Local(name) => value_of(alloc, locals, base, line, name.as_slice()),
-        Written::Symbol(name) => global_of(alloc, tops, line, name.as_slice()),
+    match &arg.opd {
+        Written::Local(name) => value_of(alloc, known, line, name.as_slice(), arg.ty, fits),
+        Written::Symbol(name) => global_of(alloc, known.tops, line, name.as_slice()),
         Written::Lit(literal) => Ok(Opd::Lit(literal.try_clone(alloc)?)),
     }
 }
 
-/// The operands that are written.
+/// The operands that are written; whether all have their written types goes into `fits`.
+#[tactic(auto, using(crate::proofs::Binding::and_true, crate::proofs::Binding::and_more))]
 fn opds_of(
     alloc: Global,
-    tops: &Scope<Top>,
-    locals: &Scope<Meaning>,
-    base: u32,
+    known: &Context,
     line: u32,
     args: &[Arg],
+    fits: &mut bool,
 ) -> Result<Opds, ResolveRefusal>
-    ensures { Gives (λ opds. opds) result (links.opds_onto tops.now locals.now base line [] args.now) }
+    ensures opds { Gives (λ opds. opds) result (links.opds_onto known.now.tops.now known.now.locals.now known.now.base line [] args.now) }
+    ensures fits { OnOk result (fits.new ≡ (fits.old && list_all (typed.arg_fits known.now.locals.now) args.now)) }
 {
     let mut opds = Opds::new(alloc);
     let mut rest = args;
     'each: while let [arg, after @ ..] = rest {
-        let opd = opd_of(alloc, tops, locals, base, line, &arg.opd)?;
+        let opd = opd_of(alloc, known, line, arg, fits)?;
         opds.push(opd)?;
         rest = after;
     }
@@ -173,16 +183,16 @@ fn blocks_of(
 #[tactic(auto, unfolding(crate::specs::Links::in_order))]
 fn in_order(
     alloc: Global,
-    tops: &Scope<Top>,
-    locals: &Scope<Meaning>,
-    base: u32,
+    known: &Context,
     line: u32,
     stmt: &Stmt,
+    fits: &mut bool,
 ) -> Result<Linked, ResolveRefusal>
-    ensures { Gives (λ whole. whole) result (links.in_order tops.now locals.now base line stmt.now) }
+    ensures linked { Gives (λ whole. whole) result (links.in_order known.now.tops.now known.now.locals.now known.now.base line stmt.now) }
+    ensures fits { OnOk result (fits.new ≡ (fits.old && list_all (typed.arg_fits known.now.locals.now) stmt.now.args)) }
 {
-    let opds = opds_of(alloc, tops, locals, base, line, stmt.args.as_slice())?;
-    let blocks = blocks_of(alloc, locals, line, stmt.labels.as_slice())?;
+    let opds = opds_of(alloc, known, line, stmt.args.as_slice(), fits)?;
+    let blocks = blocks_of(alloc, known.locals, line, stmt.labels.as_slice())?;
     Ok(Linked { opds, blocks })
 }
 
@@ -192,17 +202,16 @@ impl Linked {
     fn add_pair(
         &mut self,
         alloc: Global,
-        tops: &Scope<Top>,
-        locals: &Scope<Meaning>,
-        base: u32,
+        known: &Context,
         line: u32,
-        written: &Written,
+        arg: &Arg,
         label: &[u8],
     ) -> Result<(), ResolveRefusal>
-        ensures { Gives (λ _. self.new) result (links.with_pair tops.now locals.now base line self.old written.now label.now) }
+        ensures { Gives (λ _. self.new) result (links.with_pair known.now.tops.now known.now.locals.now known.now.base line self.old arg.now.opd label.now) }
     {
-        let opd = opd_of(alloc, tops, locals, base, line, written)?;
-        let block = block_of(alloc, locals, line, label)?;
+        let mut fits = true;
+        let opd = opd_of(alloc, known, line, arg, &mut fits)?;
+        let block = block_of(alloc, known.locals, line, label)?;
         self.opds.push(opd)?;
         self.blocks.push(block)?;
         Ok(())
@@ -212,14 +221,12 @@ impl Linked {
 /// Operands and labels by turns, as many as there are of both.
 fn by_turns(
     alloc: Global,
-    tops: &Scope<Top>,
-    locals: &Scope<Meaning>,
-    base: u32,
+    known: &Context,
     line: u32,
     args: &[Arg],
     labels: &[Bytes],
 ) -> Result<Linked, ResolveRefusal>
-    ensures { Gives (λ whole. whole) result (links.pairs_onto tops.now locals.now base line (record { opds = []; blocks = [] }) args.now labels.now) }
+    ensures { Gives (λ whole. whole) result (links.pairs_onto known.now.tops.now known.now.locals.now known.now.base line (record { opds = []; blocks = [] }) args.now labels.now) }
 {
     let mut whole = Linked {
         opds: Opds::new(alloc),
@@ -231,39 +238,40 @@ fn by_turns(
         let [label, others @ ..] = labels else {
             return Ok(whole);
         };
-        whole.add_pair(alloc, tops, locals, base, line, &arg.opd, label.as_slice())?;
+        whole.add_pair(alloc, known, line, arg, label.as_slice())?;
         args = more;
         labels = others;
     }
     Ok(whole)
 }
 
-/// What the names of a statement stand for.
+/// What the names of a statement stand for; whether all operands have their written types goes into `fits`.
 pub(crate) fn link(
     alloc: Global,
-    tops: &Scope<Top>,
-    locals: &Scope<Meaning>,
-    base: u32,
+    known: &Context,
     line: u32,
     stmt: &Stmt,
+    fits: &mut bool,
 ) -> Result<Linked, ResolveRefusal>
-    ensures { Gives (λ whole. whole) result (links.linked tops.now locals.now base line stmt.now) }
+    ensures linked { Gives (λ whole. whole) result (links.linked known.now.tops.now known.now.locals.now known.now.base line stmt.now) }
+    ensures fits { OnOk result (fits.new ≡ (fits.old && list_all (typed.arg_fits known.now.locals.now) stmt.now.args)) }
 {
     match &stmt.op {
-        Op::Phi { .. } => by_turns(
-            alloc,
-            tops,
-            locals,
-            base,
-            line,
-            stmt.args.as_slice(),
-            stmt.labels.as_slice(),
-        ),
-        Op::Call { callee, .. } => {
-            callee_of(alloc, tops, line, callee.as_slice())?;
-            in_order(alloc, tops, locals, base, line, stmt)
+        Op::Phi { .. } => {
+            *fits = *fits && args_fit(known.locals, stmt.args.as_slice());
+            by_turns(
+                alloc,
+                known,
+                line,
+                stmt.args.as_slice(),
+                stmt.labels.as_slice(),
+            )
         }
-        _ => in_order(alloc, tops, locals, base, line, stmt),
+        Op::Call { callee, .. } => {
+            callee_of(alloc, known.tops, line, callee.as_slice())?;
+            in_order(alloc, known, line, stmt, fits)
+        }
+        _ => in_order(alloc, known, line, stmt, fits),
     }
 }
 

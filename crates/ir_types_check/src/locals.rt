@@ -69,7 +69,12 @@ impl<'a> Locals<'a> {
 
     /// With a parameter.
     #[tactic(auto, unfolding(crate::specs::Locals::with_param))]
-    fn add_param(&mut self, alloc: Global, line: u32, param: &'a Param) -> Result<(), ResolveRefusal>
+    fn add_param(
+        &mut self,
+        alloc: Global,
+        line: u32,
+        param: &'a Param,
+    ) -> Result<(), ResolveRefusal>
         ensures { Gives (λ _. self.new) result (locals.with_param line self.old param.now) }
     {
         let at = self.at.behind_param(param)?;

@@ -41,7 +41,7 @@ fn resolved(alloc: Global, bytes: &[u8]) -> Result<Resolved, Fault>
     ensures { making.ResolvesTo bytes.now result }
 {
     let draft = drafted(alloc, bytes)?;
-    match resolve(alloc, &draft) {
+    match resolve(alloc, draft) {
         Ok(resolved) => Ok(resolved),
         Err(ResolveRefusal::TwiceDefined { line, name }) => Err(Fault::Refused(Cause::TwiceDefined {
             line,

@@ -5,8 +5,8 @@ use Rattle.ir_types_check.proofs.links.by_turns.Given as goal
 
 abbrev pub invariant-each : goal.invariant-each
 invariant-each l =
-    pairs_onto l.tops l.locals l.base l.line l.whole l.args l.labels
-    ≡ pairs_onto l.tops l.locals l.base l.line (record { opds = []; blocks = [] }) l.fn.args l.fn.labels
+    pairs_onto l.known.tops.now l.known.locals.now l.known.base l.line l.whole l.args l.labels
+    ≡ pairs_onto l.known.tops.now l.known.locals.now l.known.base l.line (record { opds = []; blocks = [] }) l.fn.args l.fn.labels
 
 abbrev pub decreases-each : goal.decreases-each
 decreases-each l = length l.args
