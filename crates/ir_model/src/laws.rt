@@ -8,6 +8,8 @@ ghost use Rattle.ir_types.specs.declared.ty.Ty.{Ty};
 ghost use Rattle.ir_types.specs.declared.inst.Inst.{Inst};
 ghost use Rattle.ir_types.specs.declared.func.Block.{Block};
 ghost use Rattle.ir_types.specs.declared.module.Module.{Module};
+ghost use Rattle.ir_types.specs.Formed.{IsFormed};
+ghost use Rattle.ir_types.specs.Renumbered.{renumbered};
 ghost use Rattle.ir_model.specs.declared.value.Value.{Value};
 ghost use Rattle.ir_model.specs.declared.outcome.Outcome.{Outcome};
 ghost use Rattle.ir_model.specs.Memory.{Memory};
@@ -27,6 +29,12 @@ pub fn outcomes_refine()
 pub fn modules_refine()
     ensures same { (m : Module) → ModuleRefines m m }
     ensures chain { (a b c : Module) → length b.globals ≤ length c.globals → ModuleRefines a b → ModuleRefines b c → ModuleRefines a c }
+{}
+
+/// A formed module and the same with its ids given anew may stand for each other.
+pub fn renumbered_refines()
+    ensures new { (m : Module) → IsFormed m → ModuleRefines (renumbered m) m }
+    ensures old { (m : Module) → IsFormed m → ModuleRefines m (renumbered m) }
 {}
 
 /// As long as calls are not read, a run is what it is where a call has no meaning.
