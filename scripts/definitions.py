@@ -95,7 +95,7 @@ ROWS = [
     ("a text reads as a module", "Both of these.", "rf_text/specs/Reads.antt", "Reads", None),
     ("a text spells a module", "Each line has the form that the module has there, with its own names in the place of ids. A formed module that a text spells is the one that it reads as.", "rf_text/specs/Spelled.antt", "Spelled", None),
     ("a module that can be printed and read again", "Names are plain and each given once, kept parts lex alone, globals are those of the kept lines.", "rf_text/specs/Printable.antt", "IsPrintable", None),
-    ("ids given anew", "0, 1 and so on over parameters and instructions in order of the text.", "rf_text/specs/Renumbered.antt", "renumbered", None),
+    ("ids given anew", "0, 1 and so on over parameters and instructions in order of the text.", "ir_types/specs/Renumbered.antt", "renumbered", None),
     ("what is printed is read again", "The text of the module reads as it, with its ids given anew, and that is formed.", "rf_text/specs/Again.antt", "IsReadAgain", None),
     ("an instruction as its lines have it", "Names in place of ids.", "rf_text/specs/Written.antt", "forms_of", None),
     ("a kept part", "Bytes that begin and end with a token and lex alone.", "rf_text/specs/KeptParts.antt", "IsKeptPart", "Parameter Attributes"),

@@ -5,4 +5,9 @@ pub mod Pointers
 pub mod Same
 pub mod Chain
 pub mod NoCalls
+pub mod Finer
+pub mod Effects
+pub mod Steps
+pub mod Formed
+pub mod Renumbering
 pub mod Indices

@@ -1,5 +1,5 @@
 -- Worked runs: two stores, an undefined run, a run that is cut, and two modules of which one may not stand for the other.
-use Rattle.std.specs.Prelude.{◌≡◌, refl, ℕ, pos, false, Option, None, Some, List, [], ◌∷◌, replicate, codes}
+use Rattle.std.specs.Prelude.{◌≡◌, refl, ℕ, zero, suc, pos, false, Option, None, Some, List, [], ◌∷◌, replicate, codes}
 use Rattle.std.specs.Int.{int_wrap}
 use Rattle.std.proofs.Common.{subst}
 use Rattle.std.proofs.Math.Dec.{lit≤}
@@ -13,15 +13,16 @@ use Rattle.ir_types.specs.declared.ty.Elem.TheVariants.{One}
 use Rattle.ir_types.specs.declared.opd.Opd.{Opd}
 use Rattle.ir_types.specs.declared.opd.Opd.TheVariants.{Val, Lit}
 use Rattle.ir_types.specs.declared.op.Op.{Op}
-use Rattle.ir_types.specs.declared.op.Op.TheVariants.{Gep, Store, Ret}
+use Rattle.ir_types.specs.declared.op.Op.TheVariants.{Gep, Store, Ret, Call}
 use Rattle.ir_types.specs.declared.inst.Inst.{Inst}
 use Rattle.ir_types.specs.declared.func.Func.{Func}
 use Rattle.ir_types.specs.declared.module.Item.TheVariants.{Func as FuncItem}
 use Rattle.ir_types.specs.declared.module.Module.{Module}
-use Rattle.ir_model.specs.declared.value.Value.TheVariants.{Ptr as PtrValue}
+use Rattle.ir_model.specs.declared.value.Value.TheVariants.{Lane as LaneValue, Ptr as PtrValue}
 use Rattle.ir_model.specs.declared.outcome.Outcome.TheVariants.{Returned, Undefined, Cut}
-use Rattle.ir_model.specs.Values.{Lane}
+use Rattle.ir_model.specs.Values.{Lane, Env, with_value}
 use Rattle.ir_model.specs.Memory.{Memory}
+use Rattle.ir_model.specs.Step.{On, Halts, Calls, step}
 use Rattle.ir_model.specs.Run.{run_of}
 use Rattle.ir_model.specs.Fits.{ObjectFits, Fits}
 use Rattle.ir_model.specs.Refines.{ModuleRefines}
@@ -111,3 +112,30 @@ IsNone (Some n) = ⊥
 lost_store : ModuleRefines (module_b only_second) (module_b two_stores) → ⊥
 unfolding int_wrap
 lost_store r = subst IsNone (r.runs 0 (func_b two_stores) refl (PtrValue (Some (0, pos 0)) ∷ []) eight_bytes fits_b 1).1.0.0 tt
+
+-- ---- a call
+
+-- calls that take one of the bound and give 5
+abbrev five : Calls
+five callee vs m zero = Halts m
+five callee vs m (suc left) = On (record { result = Some (LaneValue (Some 5)); memory = m; left = left })
+
+-- %r = call i32 @f()
+abbrev call_f : Inst
+call_f = inst 1 (Some (codes "r")) (Int 32) (Call [] [] (codes "f") [] []) []
+
+abbrev nowhere : Env
+nowhere x = PtrValue None
+
+-- the result is the value of the id, and the bound is what the call left
+step_of_call : step (λ x. Void) five call_f (record { state = record { env = nowhere; memory = [] }; left = 3 })
+    ≡ On (record { state = record { env = with_value nowhere (id 1) (LaneValue (Some 5)); memory = [] }; left = 2 })
+step_of_call = refl
+
+-- where no block is left the call is cut, and the function with it
+step_of_cut_call : step (λ x. Void) five call_f (record { state = record { env = nowhere; memory = poison_bytes ∷ [] }; left = 0 }) ≡ Halts (poison_bytes ∷ [])
+step_of_cut_call = refl
+
+-- as long as calls are not read a call is undefined
+run_of_call : run_of (module_b (call_f ∷ [])) 0 (PtrValue None ∷ []) [] 9 ≡ Undefined
+run_of_call = refl

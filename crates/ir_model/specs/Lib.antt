@@ -10,4 +10,5 @@ pub mod Run
 pub mod CallFree
 pub mod Fits
 pub mod Refines
+pub mod Monotone
 pub mod Examples

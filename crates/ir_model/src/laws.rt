@@ -2,14 +2,22 @@
 //!
 //! Each law is the contract of a function that does nothing and that no program calls; a caller that calls it has the law.
 
-ghost use Rattle.std.specs.Prelude.{◌≡◌, ℕ, ◌≤◌, List, length};
+ghost use Rattle.std.specs.Prelude.{◌≡◌, ℕ, ◌≤◌, Option, List, length};
+ghost use Rattle.ir_types.specs.declared.id.Id.{Id};
+ghost use Rattle.ir_types.specs.declared.ty.Ty.{Ty};
+ghost use Rattle.ir_types.specs.declared.inst.Inst.{Inst};
+ghost use Rattle.ir_types.specs.declared.func.Block.{Block};
 ghost use Rattle.ir_types.specs.declared.module.Module.{Module};
+ghost use Rattle.ir_types.specs.Formed.{IsFormed};
+ghost use Rattle.ir_types.specs.Renumbered.{renumbered};
 ghost use Rattle.ir_model.specs.declared.value.Value.{Value};
 ghost use Rattle.ir_model.specs.declared.outcome.Outcome.{Outcome};
 ghost use Rattle.ir_model.specs.Memory.{Memory};
-ghost use Rattle.ir_model.specs.Run.{run_of};
+ghost use Rattle.ir_model.specs.Step.{Calls, Reached, step};
+ghost use Rattle.ir_model.specs.Run.{run_block, run_of};
 ghost use Rattle.ir_model.specs.CallFree.{plain_run_of};
 ghost use Rattle.ir_model.specs.Refines.{OutcomeRefines, ModuleRefines};
+ghost use Rattle.ir_model.specs.Monotone.{WentRefines, ReachedRefines, ExitRefines, CallsRefine};
 
 /// An outcome may stand for itself, and outcomes refine in a chain.
 pub fn outcomes_refine()
@@ -23,7 +31,19 @@ pub fn modules_refine()
     ensures chain { (a b c : Module) → length b.globals ≤ length c.globals → ModuleRefines a b → ModuleRefines b c → ModuleRefines a c }
 {}
 
+/// A formed module and the same with its ids given anew may stand for each other.
+pub fn renumbered_refines()
+    ensures new { (m : Module) → IsFormed m → ModuleRefines (renumbered m) m }
+    ensures old { (m : Module) → IsFormed m → ModuleRefines m (renumbered m) }
+{}
+
 /// As long as calls are not read, a run is what it is where a call has no meaning.
 pub fn runs_are_call_free()
     ensures { (m : Module) (func : ℕ) (args : List Value) (memory : Memory) (bound : ℕ) → run_of m func args memory bound ≡ plain_run_of m func args memory bound }
+{}
+
+/// One step is monotone in operands, memory and calls, for all forms; and so is a block.
+pub fn steps_are_monotone()
+    ensures step { (n : ℕ) (types : Id → Ty) (new old : Calls) → CallsRefine n new old → (i : Inst) (r s : Reached) → ReachedRefines n r s → WentRefines (ReachedRefines n) (step types new i r) (step types old i s) }
+    ensures block { (n : ℕ) (types : Id → Ty) (new old : Calls) → CallsRefine n new old → (from : Option ℕ) (b : Option Block) (r s : Reached) → ReachedRefines n r s → WentRefines (ExitRefines n) (run_block types new from r b) (run_block types old from s b) }
 {}

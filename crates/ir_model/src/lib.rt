@@ -8,7 +8,9 @@ mod laws;
 mod outcome;
 mod value;
 
-pub use laws::{modules_refine, outcomes_refine, runs_are_call_free};
+pub use laws::{
+    modules_refine, outcomes_refine, renumbered_refines, runs_are_call_free, steps_are_monotone,
+};
 pub use outcome::Outcome;
 pub use value::Value;
 use vx_list::Seq;

@@ -2,3 +2,4 @@ pub mod Walks
 pub mod Available
 pub mod Typed
 pub mod Formed
+pub mod Renumbered

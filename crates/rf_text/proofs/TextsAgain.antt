@@ -9,7 +9,7 @@ use Rattle.ir_read.specs.Items.{IsItems}
 use Rattle.rf_text.specs.ModuleForms.{module_forms, printed_items}
 use Rattle.rf_text.specs.Printable.{IsPrintable, IsNumbered, IsCounted}
 use Rattle.rf_text.specs.Reads.{Reads}
-use Rattle.rf_text.specs.Renumbered.{renumbered}
+use Rattle.ir_types.specs.Renumbered.{renumbered}
 use Rattle.rf_text.specs.TextLines.{TextLines}
 use Rattle.rf_text.specs.Again.{IsReadAgain}
 use Rattle.rf_text.proofs.TextLines as lines

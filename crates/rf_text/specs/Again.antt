@@ -5,7 +5,7 @@ use Rattle.ir_types.specs.Formed.{IsFormed}
 use Rattle.ir_print.specs.Text.{text_of}
 use Rattle.rf_text.specs.Printable.{IsPrintable, IsNumbered, IsCounted}
 use Rattle.rf_text.specs.Reads.{Reads}
-use Rattle.rf_text.specs.Renumbered.{renumbered}
+use Rattle.ir_types.specs.Renumbered.{renumbered}
 
 -- the module's text reads as the module with its ids given anew, which is formed
 pub record IsReadAgain (m : Module) : Type 0 where

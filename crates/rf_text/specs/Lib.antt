@@ -10,7 +10,6 @@ pub mod Printable
 pub mod Printed
 pub mod Readable
 pub mod Reads
-pub mod Renumbered
 pub mod Shown
 pub mod Spelled
 pub mod Spells

@@ -1,0 +1,90 @@
+-- What formed says of operands: each is there, and is a value of its function.
+use Rattle.std.proofs.Common.{◌≡◌, refl, sym, subst, ℕ, zero, suc, true, Option, None, Some, List, [], ◌∷◌, map, slice_get, ◌⊎◌, inl, inr, arith}
+use Rattle.std.specs.List.{All}
+use Rattle.std.proofs.lemmas.List.Elements.{All-tail}
+use Rattle.ir_types.specs.declared.ty.Ty.{Ty}
+use Rattle.ir_types.specs.declared.ty.Ty.TheVariants.{Void, Int, Ptr}
+use Rattle.ir_types.specs.declared.ty.Elem.{Elem}
+use Rattle.ir_types.specs.declared.ty.Elem.TheVariants.{One, Array}
+use Rattle.ir_types.specs.declared.op.Op.{Op}
+use Rattle.ir_types.specs.declared.op.Op.TheVariants.{Bin, Icmp, Cast, Select, Extract, Insert, Shuffle, Gep, Load, Store, Alloca, Phi, Ret, Br, CondBr, Switch, Unreachable, Call}
+use Rattle.ir_types.specs.declared.inst.Inst.{Inst}
+use Rattle.ir_types.specs.declared.func.Param.{Param}
+use Rattle.ir_types.specs.declared.func.Func.{Func}
+use Rattle.ir_types.specs.declared.module.Module.{Module}
+use Rattle.ir_types.specs.Typed.{is_value, IsTyped, HasTwoIndices}
+use Rattle.ir_types.specs.Formed.{opd_ty, IsCalling, IsFormedInst}
+
+-- ---- lists
+
+-- each item, by recursion
+abbrev pub Every : {A : Type 0} → (A → Type 0) → List A → Type 0
+Every P [] = Unit {0}
+Every P (x ∷ xs) = P x × Every P xs
+
+pub every_of_all : {A : Type 0} (P : A → Type 0) (xs : List A) → All P xs → Every P xs
+every_of_all P [] h = tt
+every_of_all P (x ∷ xs) h = (h 0 x (omega arith), every_of_all P xs (All-tail P x xs h))
+
+pub every_of_each : {A : Type 0} (P : A → Type 0) (xs : List A) → ((k : ℕ) (x : A) → slice_get xs k ≡ Some x → P x) → Every P xs
+every_of_each P [] h = tt
+every_of_each P (x ∷ xs) h = (h 0 x refl, every_of_each P xs (λ k y e. h (suc k) y e))
+
+pub every_at : {A : Type 0} (P : A → Type 0) (xs : List A) (k : ℕ) (x : A) → Every P xs → slice_get xs k ≡ Some x → P x
+every_at P [] k x h e = absurd cc
+every_at P (y ∷ xs) zero x h e = subst P (some e) h.0 where
+  some : Some y ≡ Some x → y ≡ x
+  some e = cc
+every_at P (y ∷ xs) (suc k) x h e = every_at P xs k x h.1 e
+
+pub every_more : {A : Type 0} (P Q : A → Type 0) → ((x : A) → P x → Q x) → (xs : List A) → Every P xs → Every Q xs
+every_more P Q f [] h = tt
+every_more P Q f (x ∷ xs) h = (f x h.0, every_more P Q f xs h.1)
+
+-- ---- operands are there
+
+abbrev pub IsThere : Option Ty → Type 0
+IsThere None = ⊥
+IsThere (Some t) = Unit {0}
+
+there_params : (ps : List Param) → Every IsThere (map (λ (p : Param). Some p.ty) ps)
+there_params [] = tt
+there_params (p ∷ ps) = (tt, there_params ps)
+
+is_there : (t : Ty) (u : Option Ty) → u ≡ Some t → IsThere u
+is_there t u e = subst IsThere (sym e) tt
+
+two_there : (elem : Elem) (k : ℕ) (tys : List (Option Ty)) → HasTwoIndices elem k tys → Every IsThere tys
+two_there (One t) k tys h = elim h [ ]
+two_there (Array n w) k tys h = subst (Every IsThere) (sym h.2) (tt, (tt, (tt, tt)))
+
+pub typed_there : (m : Module) (ret : Ty) (op : Op) (t : Ty) (tys : List (Option Ty)) → IsTyped ret op t tys → IsCalling m op t tys → Every IsThere tys
+typed_there m ret (Bin op flags) t tys h c = subst (Every IsThere) (sym h.2) (tt, (tt, tt))
+typed_there m ret (Icmp pred) t tys h c = subst (Every IsThere) (sym h.3) (tt, (tt, tt))
+typed_there m ret (Cast op nneg) t tys h c = subst (Every IsThere) (sym h.5) (tt, tt)
+typed_there m ret Select t tys h c = subst (Every IsThere) (sym h.3) (tt, (tt, (tt, tt)))
+typed_there m ret Extract t tys h c = subst (Every IsThere) (sym h.6) (tt, (tt, tt))
+typed_there m ret Insert t tys h c = subst (Every IsThere) (sym h.6) (tt, (tt, (tt, tt)))
+typed_there m ret (Shuffle mask) t tys h c = subst (Every IsThere) (sym h.6) (tt, (tt, tt))
+typed_there m ret (Gep elem inbounds) t tys h c = by_shape h.4
+  where
+    by_shape : (tys ≡ Some Ptr ∷ Some (Int h.0) ∷ []) ⊎ HasTwoIndices elem h.0 tys → Every IsThere tys
+    by_shape (inl e) = subst (Every IsThere) (sym e) (tt, (tt, tt))
+    by_shape (inr e) = two_there elem h.0 tys e
+typed_there m ret (Load align) t tys h c = subst (Every IsThere) (sym h.2) (tt, tt)
+typed_there m ret (Store align) t tys h c = subst (Every IsThere) (sym h.2) (tt, (tt, tt))
+typed_there m ret (Alloca elem align) t tys h c = subst (Every IsThere) (sym h.3) tt
+typed_there m ret (Phi blocks) t tys h c = every_more (λ u. u ≡ Some t) IsThere (is_there t) tys (every_of_all (λ u. u ≡ Some t) tys h.3)
+typed_there m ret Ret t tys h c = by_ret h.1
+  where
+    by_ret : ((ret ≡ Void) × (tys ≡ [])) ⊎ ((is_value ret ≡ true) × (tys ≡ Some ret ∷ [])) → Every IsThere tys
+    by_ret (inl e) = subst (Every IsThere) (sym e.1) tt
+    by_ret (inr e) = subst (Every IsThere) (sym e.1) (tt, tt)
+typed_there m ret (Br to) t tys h c = subst (Every IsThere) (sym h.1) tt
+typed_there m ret (CondBr first second) t tys h c = subst (Every IsThere) (sym h.1) (tt, tt)
+typed_there m ret (Switch other cases to) t tys h c = subst (Every IsThere) (sym h.6) (tt, tt)
+typed_there m ret Unreachable t tys h c = subst (Every IsThere) (sym h.1) tt
+typed_there m ret (Call tail pre callee attrs post) t tys h c = subst (Every IsThere) (sym c.4) (there_params c.0.params)
+
+pub opds_there : (m : Module) (f : Func) (number position : ℕ) (i : Inst) → IsFormedInst m f number position i → Every IsThere (map (opd_ty m f) i.opds)
+opds_there m f number position i h = typed_there m f.ret i.op i.ty (map (opd_ty m f) i.opds) h.typed h.calling
