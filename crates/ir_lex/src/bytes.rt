@@ -145,7 +145,7 @@ pub(crate) fn is_mark(byte: u8) -> bool
 }
 
 /// Whether a byte is a space or a tab.
-pub(crate) fn is_blank(byte: u8) -> bool
+pub fn is_blank(byte: u8) -> bool
     ensures { result ≡ bytes.is_blank byte }
 {
     CLASSES[byte as usize].is_blank()

@@ -20,6 +20,7 @@ mod list;
 mod refusal;
 mod scan;
 
+pub use bytes::is_blank;
 pub use faults::first_fault;
 pub use list::{Token, Tokens};
 pub use refusal::LexRefusal;

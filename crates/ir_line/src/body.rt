@@ -16,7 +16,7 @@ use crate::headers::front;
 use crate::refusal::Stop;
 use crate::words::{all_ascii, is, is_first};
 use crate::{Line, LineRefusal};
-use ir_lex::{Token, Tokens, text};
+use ir_lex::{Token, text};
 use std::alloc::Global;
 
 /// Whether a word begins with `!`.
@@ -124,11 +124,11 @@ pub(crate) fn numbered(found: Result<Line, Stop>, number: u32) -> Result<Line, L
 /// Refusals: `NotALine` with the number, where the line spells no form; `OutOfMemory`.
 ///
 /// LLVM Language Reference, "Instruction Reference".
-pub fn body_line(alloc: Global, line: &[u8], t: &Tokens, number: u32) -> Result<Line, LineRefusal>
+pub fn body_line(alloc: Global, line: &[u8], t: &[Token], number: u32) -> Result<Line, LineRefusal>
     requires { Lexed line.now t.now }
     ensures found { IfOk result (body.Spells line.now t.now) }
     ensures only { (l : Line) → body.Spells line.now t.now l → Answers result (Some l) }
     ensures number { IfErr result (IsNumbered number) }
 {
-    numbered(read_body(alloc, line, t.as_slice()), number)
+    numbered(read_body(alloc, line, t), number)
 }
