@@ -17,7 +17,7 @@ ghost use Rattle.ir_types_check.specs.Typed as typed;
 use crate::ResolveRefusal;
 use crate::context::Context;
 use crate::edges::sources_of;
-use crate::links::{cases_of, link, op_of};
+use crate::links::{Linked, op_with};
 use crate::locals::Locals;
 use crate::outline::{At, count_of, is_terminator, one_more, written, written_name};
 use crate::scope::{Scope, copied};
@@ -68,9 +68,9 @@ fn inst_of(
     ensures inst { Gives (λ inst. inst) result (build.inst_of known.now.tops.now known.now.locals.now known.now.base k line stmt.now rest.now) }
     ensures fits { OnOk result (fits.new ≡ (fits.old && list_all (typed.arg_fits known.now.locals.now) stmt.now.args)) }
 {
-    let linked = link(alloc, known, line, stmt, fits)?;
-    let cases = cases_of(alloc, known.locals, &stmt.op, rest)?;
-    let op = op_of(alloc, &linked.blocks, cases, &stmt.op)?;
+    let mut linked = Linked::new(alloc);
+    linked.link(alloc, known, line, stmt, fits)?;
+    let op = op_with(alloc, known.locals, &linked.blocks, &stmt.op, rest)?;
     let name = written(alloc, &stmt.result)?;
     Ok(Inst {
         id: id_of(k),
