@@ -1,14 +1,19 @@
 -- The parts of `resolved_of` in the order in which they are found: first the names of the module, then, function by function, the
 -- function's names, what its lines use, and its types. What is found out of order is kept aside.
 use Rattle.std.specs.Prelude.{◌≡◌, ℕ, Option, None, Some, Result, Ok, Err, List, [], ◌∷◌}
+use Rattle.ir_types.specs.declared.op.Op.{Op}
+use Rattle.ir_line.specs.declared.draft.Numbered.{Numbered}
 use Rattle.ir_line.specs.declared.draft.DraftItem.{DraftItem}
 use Rattle.ir_line.specs.declared.draft.DraftItem.TheVariants as item
+use Rattle.ir_types_check.specs.declared.locals.Meaning.{Meaning}
 use Rattle.ir_types_check.specs.declared.tops.Top.TheVariants.{Function}
 use Rattle.ir_types_check.specs.declared.tops.Tops.{Tops}
 use Rattle.ir_types_check.specs.declared.building.Done.{Done}
 use Rattle.ir_types_check.specs.declared.refusal.ResolveRefusal.{ResolveRefusal}
 use Rattle.ir_types_check.specs.declared.refusal.ResolveRefusal.TheVariants.{IllTyped}
 use Rattle.ir_types_check.specs.Answers.{◌>>=◌, Refuses}
+use Rattle.ir_types_check.specs.Scope.{Scope}
+use Rattle.ir_types_check.specs.Links.{cases_of, op_of}
 use Rattle.ir_types_check.specs.Locals.{locals_of}
 use Rattle.ir_types_check.specs.Tops.{with_top, with_symbol, with_opaque, signature_of, tops_of}
 
@@ -30,6 +35,10 @@ own_names _ = Ok tt
 abbrev pub all_own_names : List DraftItem → Result (Unit {0}) ResolveRefusal
 all_own_names [] = Ok tt
 all_own_names (x ∷ xs) = own_names x >>= λ _. all_own_names xs
+
+-- the operation with these blocks, where these lines follow it
+abbrev pub op_with : Scope Meaning → List ℕ → Op → List Numbered → Result Op ResolveRefusal
+op_with locals blocks op rest = cases_of locals op rest >>= λ cases. Ok (op_of blocks cases op)
 
 -- these are the names of the module, if no function defines one twice; or the refusal is that of the first that is defined twice
 abbrev pub GivesTops : Result Tops ResolveRefusal → List DraftItem → Type 0

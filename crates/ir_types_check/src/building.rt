@@ -17,7 +17,7 @@ ghost use Rattle.ir_types_check.specs.Typed as typed;
 use crate::ResolveRefusal;
 use crate::context::Context;
 use crate::edges::sources_of;
-use crate::links::{cases_of, link, op_of};
+use crate::links::{Linked, op_with};
 use crate::locals::Locals;
 use crate::outline::{At, count_of, is_terminator, one_more, written, written_name};
 use crate::scope::{Scope, copied};
@@ -68,9 +68,9 @@ fn inst_of(
     ensures inst { Gives (λ inst. inst) result (build.inst_of known.now.tops.now known.now.locals.now known.now.base k line stmt.now rest.now) }
     ensures fits { OnOk result (fits.new ≡ (fits.old && list_all (typed.arg_fits known.now.locals.now) stmt.now.args)) }
 {
-    let linked = link(alloc, known, line, stmt, fits)?;
-    let cases = cases_of(alloc, known.locals, &stmt.op, rest)?;
-    let op = op_of(alloc, &linked.blocks, cases, &stmt.op)?;
+    let mut linked = Linked::new(alloc);
+    linked.link(alloc, known, line, stmt, fits)?;
+    let op = op_with(alloc, known.locals, &linked.blocks, &stmt.op, rest)?;
     let name = written(alloc, &stmt.result)?;
     Ok(Inst {
         id: id_of(k),
@@ -81,15 +81,43 @@ fn inst_of(
     })
 }
 
-/// Adds an instruction to the open block; to an unnamed one where there is none.
-fn push_inst(alloc: Global, current: &mut Option<Block>, inst: Inst) -> Result<(), AllocError>
+/// How many instructions stand at the front of these lines before the block ends.
+fn insts_ahead(lines: &[Numbered]) -> usize {
+    let mut count = 0usize;
+    for line in lines {
+        match &line.form {
+            Line::Label(_) => return count,
+            Line::Stmt(stmt) => {
+                count = count.saturating_add(1);
+                if is_terminator(&stmt.op) {
+                    return count;
+                }
+            }
+            _ => {}
+        }
+    }
+    count
+}
+
+/// Adds an instruction to the open block; to an unnamed one, with room for these lines, where there is none.
+fn push_inst(
+    alloc: Global,
+    current: &mut Option<Block>,
+    inst: Inst,
+    rest: &[Numbered],
+) -> Result<(), AllocError>
     ensures { OnOk result (current.new ≡ Some (build.with_last (build.open_block current.old) inst)) }
 {
     if let Some(block) = current {
         block.insts.push(inst)?;
         return Ok(());
     }
-    let mut insts = Insts::new(alloc);
+    let room = if is_terminator(&inst.op) {
+        1
+    } else {
+        insts_ahead(rest).saturating_add(1)
+    };
+    let mut insts = Insts::with_capacity(alloc, room)?;
     insts.push(inst)?;
     *current = Some(Block { name: None, insts });
     Ok(())
@@ -98,12 +126,18 @@ fn push_inst(alloc: Global, current: &mut Option<Block>, inst: Inst) -> Result<(
 impl Built {
     /// Adds an instruction, which closes its block or leaves it open.
     #[tactic(auto, unfolding(crate::specs::Blocks::with_inst))]
-    fn add_inst(&mut self, alloc: Global, line: u32, inst: Inst) -> Result<(), AllocError>
+    fn add_inst(
+        &mut self,
+        alloc: Global,
+        line: u32,
+        inst: Inst,
+        rest: &[Numbered],
+    ) -> Result<(), AllocError>
         ensures { OnOk result (self.new ≡ build.with_inst line self.old inst) }
     {
         self.lines.push(line)?;
         let ends = is_terminator(&inst.op);
-        push_inst(alloc, &mut self.current, inst)?;
+        push_inst(alloc, &mut self.current, inst, rest)?;
         if ends {
             self.close()?;
         }
@@ -122,15 +156,18 @@ impl Built {
 
     /// Adds a label, which opens a block.
     #[tactic(auto, unfolding(crate::specs::Blocks::labelled))]
-    fn add_label(&mut self, alloc: Global, name: &Bytes) -> Result<(), AllocError>
+    fn add_label(
+        &mut self,
+        alloc: Global,
+        name: &Bytes,
+        rest: &[Numbered],
+    ) -> Result<(), AllocError>
         ensures { OnOk result (self.new ≡ build.labelled self.old name.now) }
     {
         self.close()?;
         let name = written_name(alloc, name)?;
-        self.current = Some(Block {
-            name,
-            insts: Insts::new(alloc),
-        });
+        let insts = Insts::with_capacity(alloc, insts_ahead(rest))?;
+        self.current = Some(Block { name, insts });
         Ok(())
     }
 
@@ -152,7 +189,7 @@ impl Built {
         let k = count_of(self.lines.len())?;
         let mut fits = true;
         let inst = inst_of(alloc, known, k, line, stmt, rest, &mut fits)?;
-        self.add_inst(alloc, line, inst)?;
+        self.add_inst(alloc, line, inst, rest)?;
         judge(alloc, known, at, line, stmt, fits, rest, ill)?;
         Ok(())
     }
@@ -172,7 +209,7 @@ impl Built {
     {
         match &first.form {
             Line::Label(name) => {
-                self.add_label(alloc, name)?;
+                self.add_label(alloc, name, rest)?;
                 Ok(())
             }
             Line::Stmt(stmt) => self.add_statement(alloc, known, at, first.line, stmt, rest, ill),
@@ -219,7 +256,7 @@ fn param_of(alloc: Global, k: u32, param: &Param) -> Result<Param, AllocError>
 fn params_from(alloc: Global, base: u32, params: &[Param]) -> Result<Params, AllocError>
     ensures { IfOk result (λ copies. copies ≡ build.params_from base params.now) }
 {
-    let mut copies = Params::new(alloc);
+    let mut copies = Params::with_capacity(alloc, params.len())?;
     let mut k = base;
     let mut rest = params;
     'each: while let [param, after @ ..] = rest {
@@ -279,7 +316,7 @@ fn built_of(
     let mut lines = lines;
     add_param_lines(&mut lines, line, head.params.as_slice())?;
     let mut built = Built {
-        blocks: Blocks::new(alloc),
+        blocks: Blocks::with_capacity(alloc, known.sources.len())?,
         current: None,
         lines,
     };

@@ -1,12 +1,13 @@
 //! `Linked` and `Cases`: what the names that a statement uses stand for.
 //!
-//! The entry points are `link`, for its own line, `cases_of`, for the cases after it, and `op_of`, its operation with these. The
-//! first two fail at the first name that is unknown, all for want of memory. As a name is looked up once, `link` tells too whether
-//! each operand has the type that is written for it.
+//! The entry points are `link`, for its own line, and `op_with`, its operation with the cases after it. They fail at the first name
+//! that is unknown, or for want of memory. As a name is looked up once, `link` tells too whether each operand has the type that is
+//! written for it.
 
 ghost use Rattle.std.specs.Prelude.{◌≡◌, ◌+◌, ◌&&◌, [], IfOk, OnOk, map};
 ghost use Rattle.std.specs.List.{list_all};
 ghost use Rattle.ir_types_check.specs.Answers.{Gives};
+ghost use Rattle.ir_types_check.specs.InOrder as order;
 ghost use Rattle.ir_types_check.specs.Links as links;
 ghost use Rattle.ir_types_check.specs.Scope.{meaning};
 ghost use Rattle.ir_types_check.specs.Typed as typed;
@@ -138,65 +139,78 @@ fn opd_of(
     }
 }
 
-/// The operands that are written; whether all have their written types goes into `fits`.
-#[tactic(auto, using(crate::proofs::Binding::and_true, crate::proofs::Binding::and_more))]
-fn opds_of(
-    alloc: Global,
-    known: &Context,
-    line: u32,
-    args: &[Arg],
-    fits: &mut bool,
-) -> Result<Opds, ResolveRefusal>
-    ensures opds { Gives (λ opds. opds) result (links.opds_onto known.now.tops.now known.now.locals.now known.now.base line [] args.now) }
-    ensures fits { OnOk result (fits.new ≡ (fits.old && list_all (typed.arg_fits known.now.locals.now) args.now)) }
-{
-    let mut opds = Opds::new(alloc);
-    let mut rest = args;
-    'each: while let [arg, after @ ..] = rest {
-        let opd = opd_of(alloc, known, line, arg, fits)?;
-        opds.push(opd)?;
-        rest = after;
-    }
-    Ok(opds)
-}
-
-/// The blocks of some labels.
-fn blocks_of(
-    alloc: Global,
-    locals: &Scope<Meaning>,
-    line: u32,
-    labels: &[Bytes],
-) -> Result<Ends, ResolveRefusal>
-    ensures { Gives (λ blocks. blocks) result (links.blocks_onto locals.now line [] labels.now) }
-{
-    let mut blocks = Ends::new(alloc);
-    let mut rest = labels;
-    'each: while let [label, after @ ..] = rest {
-        let block = block_of(alloc, locals, line, label.as_slice())?;
-        blocks.push(block)?;
-        rest = after;
-    }
-    Ok(blocks)
-}
-
-/// The operands, then the labels.
-#[tactic(auto, unfolding(crate::specs::Links::in_order))]
-fn in_order(
-    alloc: Global,
-    known: &Context,
-    line: u32,
-    stmt: &Stmt,
-    fits: &mut bool,
-) -> Result<Linked, ResolveRefusal>
-    ensures linked { Gives (λ whole. whole) result (links.in_order known.now.tops.now known.now.locals.now known.now.base line stmt.now) }
-    ensures fits { OnOk result (fits.new ≡ (fits.old && list_all (typed.arg_fits known.now.locals.now) stmt.now.args)) }
-{
-    let opds = opds_of(alloc, known, line, stmt.args.as_slice(), fits)?;
-    let blocks = blocks_of(alloc, known.locals, line, stmt.labels.as_slice())?;
-    Ok(Linked { opds, blocks })
-}
-
 impl Linked {
+    /// Nothing.
+    pub(crate) fn new(alloc: Global) -> Linked
+        ensures { result ≡ record { opds = []; blocks = [] } }
+    {
+        Linked {
+            opds: Opds::new(alloc),
+            blocks: Ends::new(alloc),
+        }
+    }
+
+    /// With the operands that are written; whether all have their written types goes into `fits`.
+    #[tactic(auto, using(crate::proofs::Binding::and_true, crate::proofs::Binding::and_more))]
+    fn add_opds(
+        &mut self,
+        alloc: Global,
+        known: &Context,
+        line: u32,
+        args: &[Arg],
+        fits: &mut bool,
+    ) -> Result<(), ResolveRefusal>
+        ensures opds { Gives (λ _. self.new.opds) result (links.opds_onto known.now.tops.now known.now.locals.now known.now.base line self.old.opds args.now) }
+        ensures blocks { OnOk result (self.new.blocks ≡ self.old.blocks) }
+        ensures fits { OnOk result (fits.new ≡ (fits.old && list_all (typed.arg_fits known.now.locals.now) args.now)) }
+    {
+        let mut rest = args;
+        'each: while let [arg, after @ ..] = rest {
+            self.opds.push(opd_of(alloc, known, line, arg, fits)?)?;
+            rest = after;
+        }
+        Ok(())
+    }
+
+    /// With the blocks of some labels.
+    fn add_blocks(
+        &mut self,
+        alloc: Global,
+        locals: &Scope<Meaning>,
+        line: u32,
+        labels: &[Bytes],
+    ) -> Result<(), ResolveRefusal>
+        ensures blocks { Gives (λ _. self.new.blocks) result (links.blocks_onto locals.now line self.old.blocks labels.now) }
+        ensures opds { OnOk result (self.new.opds ≡ self.old.opds) }
+    {
+        let mut rest = labels;
+        'each: while let [label, after @ ..] = rest {
+            let block = block_of(alloc, locals, line, label.as_slice())?;
+            self.blocks.push(block)?;
+            rest = after;
+        }
+        Ok(())
+    }
+
+    /// With the operands, then the labels.
+    #[tactic(auto, unfolding(crate::specs::Links::in_order))]
+    fn add_in_order(
+        &mut self,
+        alloc: Global,
+        known: &Context,
+        line: u32,
+        stmt: &Stmt,
+        fits: &mut bool,
+    ) -> Result<(), ResolveRefusal>
+        requires { self.old ≡ record { opds = []; blocks = [] } }
+        ensures linked { Gives (λ _. self.new) result (links.in_order known.now.tops.now known.now.locals.now known.now.base line stmt.now) }
+        ensures fits { OnOk result (fits.new ≡ (fits.old && list_all (typed.arg_fits known.now.locals.now) stmt.now.args)) }
+    {
+        self.add_opds(alloc, known, line, stmt.args.as_slice(), fits)?;
+        self.add_blocks(alloc, known.locals, line, stmt.labels.as_slice())?;
+        Ok(())
+    }
+
     /// With one operand and one label.
     #[tactic(auto, unfolding(crate::specs::Links::with_pair))]
     fn add_pair(
@@ -216,62 +230,62 @@ impl Linked {
         self.blocks.push(block)?;
         Ok(())
     }
-}
 
-/// Operands and labels by turns, as many as there are of both.
-fn by_turns(
-    alloc: Global,
-    known: &Context,
-    line: u32,
-    args: &[Arg],
-    labels: &[Bytes],
-) -> Result<Linked, ResolveRefusal>
-    ensures { Gives (λ whole. whole) result (links.pairs_onto known.now.tops.now known.now.locals.now known.now.base line (record { opds = []; blocks = [] }) args.now labels.now) }
-{
-    let mut whole = Linked {
-        opds: Opds::new(alloc),
-        blocks: Ends::new(alloc),
-    };
-    let mut args = args;
-    let mut labels = labels;
-    'each: while let [arg, more @ ..] = args {
-        let [label, others @ ..] = labels else {
-            return Ok(whole);
-        };
-        whole.add_pair(alloc, known, line, arg, label.as_slice())?;
-        args = more;
-        labels = others;
+    /// With operands and labels by turns, as many as there are of both.
+    #[inline(never)]
+    fn add_pairs(
+        &mut self,
+        alloc: Global,
+        known: &Context,
+        line: u32,
+        args: &[Arg],
+        labels: &[Bytes],
+    ) -> Result<(), ResolveRefusal>
+        ensures { Gives (λ _. self.new) result (links.pairs_onto known.now.tops.now known.now.locals.now known.now.base line self.old args.now labels.now) }
+    {
+        let mut args = args;
+        let mut labels = labels;
+        'each: while let [arg, more @ ..] = args {
+            let [label, others @ ..] = labels else {
+                return Ok(());
+            };
+            self.add_pair(alloc, known, line, arg, label.as_slice())?;
+            args = more;
+            labels = others;
+        }
+        Ok(())
     }
-    Ok(whole)
-}
 
-/// What the names of a statement stand for; whether all operands have their written types goes into `fits`.
-pub(crate) fn link(
-    alloc: Global,
-    known: &Context,
-    line: u32,
-    stmt: &Stmt,
-    fits: &mut bool,
-) -> Result<Linked, ResolveRefusal>
-    ensures linked { Gives (λ whole. whole) result (links.linked known.now.tops.now known.now.locals.now known.now.base line stmt.now) }
-    ensures fits { OnOk result (fits.new ≡ (fits.old && list_all (typed.arg_fits known.now.locals.now) stmt.now.args)) }
-{
-    match &stmt.op {
-        Op::Phi { .. } => {
-            *fits = *fits && args_fit(known.locals, stmt.args.as_slice());
-            by_turns(
-                alloc,
-                known,
-                line,
-                stmt.args.as_slice(),
-                stmt.labels.as_slice(),
-            )
+    /// With what the names of a statement stand for; whether all operands have their written types goes into `fits`.
+    pub(crate) fn link(
+        &mut self,
+        alloc: Global,
+        known: &Context,
+        line: u32,
+        stmt: &Stmt,
+        fits: &mut bool,
+    ) -> Result<(), ResolveRefusal>
+        requires { self.old ≡ record { opds = []; blocks = [] } }
+        ensures linked { Gives (λ _. self.new) result (links.linked known.now.tops.now known.now.locals.now known.now.base line stmt.now) }
+        ensures fits { OnOk result (fits.new ≡ (fits.old && list_all (typed.arg_fits known.now.locals.now) stmt.now.args)) }
+    {
+        match &stmt.op {
+            Op::Phi { .. } => {
+                *fits = *fits && args_fit(known.locals, stmt.args.as_slice());
+                self.add_pairs(
+                    alloc,
+                    known,
+                    line,
+                    stmt.args.as_slice(),
+                    stmt.labels.as_slice(),
+                )
+            }
+            Op::Call { callee, .. } => {
+                callee_of(alloc, known.tops, line, callee.as_slice())?;
+                self.add_in_order(alloc, known, line, stmt, fits)
+            }
+            _ => self.add_in_order(alloc, known, line, stmt, fits),
         }
-        Op::Call { callee, .. } => {
-            callee_of(alloc, known.tops, line, callee.as_slice())?;
-            in_order(alloc, known, line, stmt, fits)
-        }
-        _ => in_order(alloc, known, line, stmt, fits),
     }
 }
 
@@ -316,6 +330,7 @@ impl Cases {
 }
 
 /// The cases at the front of these lines.
+#[inline(never)]
 fn front_cases(
     alloc: Global,
     locals: &Scope<Meaning>,
@@ -333,21 +348,6 @@ fn front_cases(
         rest = after;
     }
     Ok(cases)
-}
-
-/// The cases of an operation, where these lines follow it.
-pub(crate) fn cases_of(
-    alloc: Global,
-    locals: &Scope<Meaning>,
-    op: &Op,
-    rest: &[Numbered],
-) -> Result<Cases, ResolveRefusal>
-    ensures { Gives (λ cases. cases) result (links.cases_of locals.now op.now rest.now) }
-{
-    match op {
-        Op::Switch { .. } => front_cases(alloc, locals, rest),
-        _ => Ok(Cases::new(alloc)),
-    }
 }
 
 /// The block at a place among the labels.
@@ -371,9 +371,15 @@ fn blocks_at(alloc: Global, blocks: &Ends, places: &[u32]) -> Result<Numbers, Al
     Ok(found)
 }
 
-/// The operation with blocks in place of the places of labels, and with its cases.
-pub(crate) fn op_of(alloc: Global, blocks: &Ends, cases: Cases, op: &Op) -> Result<Op, AllocError>
-    ensures { IfOk result (λ whole. whole ≡ links.op_of blocks.now cases op.now) }
+/// The operation with blocks in place of the places of labels, and with its cases, where these lines follow it.
+pub(crate) fn op_with(
+    alloc: Global,
+    locals: &Scope<Meaning>,
+    blocks: &Ends,
+    op: &Op,
+    rest: &[Numbered],
+) -> Result<Op, ResolveRefusal>
+    ensures { Gives (λ whole. whole) result (order.op_with locals.now blocks.now op.now rest.now) }
 {
     match op {
         Op::Phi { blocks: places } => Ok(Op::Phi {
@@ -386,11 +392,14 @@ pub(crate) fn op_of(alloc: Global, blocks: &Ends, cases: Cases, op: &Op) -> Resu
             yes: block_at(blocks, *yes),
             no: block_at(blocks, *no),
         }),
-        Op::Switch { other, .. } => Ok(Op::Switch {
-            other: block_at(blocks, *other),
-            cases: cases.values,
-            to: cases.to,
-        }),
-        _ => op.try_clone(alloc),
+        Op::Switch { other, .. } => {
+            let Cases { values, to } = front_cases(alloc, locals, rest)?;
+            Ok(Op::Switch {
+                other: block_at(blocks, *other),
+                cases: values,
+                to,
+            })
+        }
+        _ => Ok(op.try_clone(alloc)?),
     }
 }

@@ -167,6 +167,7 @@ fn sources_at(sources: &Sources, to: u32) -> &[u32]
 }
 
 /// Whether a phi of the block fits the edges to it.
+#[inline(never)]
 pub(crate) fn phi_fits(
     alloc: Global,
     locals: &Scope<Meaning>,

@@ -36,6 +36,7 @@ impl<'a, T> Model for Scope<'a, T> {
 }
 
 /// A name with its sigil.
+#[inline(never)]
 pub(crate) fn with_sigil(alloc: Global, sigil: u8, name: &[u8]) -> Result<Bytes, AllocError>
     ensures { IfOk result (λ whole. whole ≡ sigil ∷ name.now) }
 {

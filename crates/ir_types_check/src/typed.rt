@@ -118,6 +118,7 @@ fn choice_fits(
 }
 
 /// The cases at the front of these lines.
+#[inline(never)]
 fn choices_typed(
     alloc: Global,
     locals: &Scope<Meaning>,
