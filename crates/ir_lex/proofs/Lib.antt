@@ -4,6 +4,7 @@ pub mod Classes
 pub mod Cutting
 mod Examples
 pub mod Faulty
+pub mod Lanes
 pub mod Laws
 pub mod Longer
 pub mod Runs

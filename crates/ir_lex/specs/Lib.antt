@@ -3,6 +3,7 @@ pub mod Bytes
 pub mod Classes
 pub mod Ends
 pub mod Faults
+pub mod Lanes
 pub mod Scan
 pub mod Tokens
 pub mod Words

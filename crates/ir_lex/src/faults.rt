@@ -4,13 +4,15 @@
 //! of the line it is in; it stops at the few bytes that can be a fault or change that part, and passes over all others. It takes no
 //! memory. Each string is looked through once more, for its closing quote.
 
-ghost use Rattle.std.specs.Prelude.{◌≡◌, ◌+◌, ◌<◌, ◌≤◌, ◌^◌, length};
+ghost use Rattle.std.specs.Prelude.{◌≡◌, ◌+◌, ◌<◌, ◌≤◌, ◌^◌, length, take};
 ghost use Rattle.std.specs.List.{position_or_len};
 ghost use Rattle.ir_lex.specs.Bytes.{is_notable};
+ghost use Rattle.ir_lex.specs.Lanes.{first_set};
 ghost use Rattle.ir_lex.specs.Faults.{enter, opens, has_quote, begins_fault};
 ghost use Rattle.ir_lex.specs.Scan.{fault_of};
 
 use crate::bytes::{is_control, is_notable};
+use std::simd::prelude::*;
 
 /// The part of a line in which a byte stands.
 #[derive(Debug, Clone, Copy)]
@@ -64,12 +66,56 @@ fn begins_fault(part: Part, bytes: &[u8]) -> bool
     }
 }
 
+/// How many bytes are looked at in one step.
+const STEP: usize = 16;
+
+/// The place of the first bit that is set, or the size of a step.
+fn first_set(mask: u64) -> usize
+    ensures { result ≡ first_set mask }
+{
+    if mask == 0 {
+        STEP
+    } else {
+        mask.trailing_zeros() as usize
+    }
+}
+
+/// How many of the first bytes, as many as a step has, stand before a notable one.
+fn calm_in_step(bytes: &[u8]) -> usize
+    requires { 16 ≤ length bytes.now }
+    ensures { result ≡ position_or_len is_notable (take 16 bytes.now) }
+{
+    let row = u8x16::from_slice(bytes);
+    let control = row.simd_lt(u8x16::splat(b' ')) & row.simd_ne(u8x16::splat(b'\t'));
+    let delete = row.simd_eq(u8x16::splat(127));
+    let opening = row.simd_eq(u8x16::splat(b'"')) | row.simd_eq(u8x16::splat(b';'));
+    first_set((control | delete | opening).to_bitmask())
+}
+
+/// How many bytes stand before the first notable one, byte by byte.
+fn calm_by_bytes(bytes: &[u8]) -> usize
+    ensures value { result ≡ position_or_len is_notable bytes.now }
+    ensures within { result ≤ length bytes.now }
+{
+    bytes.iter().take_while(|byte| !is_notable(**byte)).count()
+}
+
 /// How many bytes at the front are no fault and open, close or begin nothing.
 fn calm_len(bytes: &[u8]) -> usize
     ensures value { result ≡ position_or_len is_notable bytes.now }
     ensures within { result ≤ length bytes.now }
 {
-    bytes.iter().take_while(|byte| !is_notable(**byte)).count()
+    let mut count = 0;
+    let mut rest = bytes;
+    'steps: while rest.len() >= STEP {
+        let calm = calm_in_step(rest);
+        if calm < STEP {
+            return count + calm;
+        }
+        count += STEP;
+        rest = rest.split_at(STEP).1;
+    }
+    count + calm_by_bytes(rest)
 }
 
 /// The place from 0 of the first fault of a line, if it has one.

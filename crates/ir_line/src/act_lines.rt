@@ -24,15 +24,17 @@ use ir_types::{Bytes, Literal, Lits, Names, Numbers, Op, Ty};
 use std::alloc::{AllocError, Global};
 
 /// A store.
-#[tactic(auto, unfolding(crate::specs::Forms::store))]
+#[tactic(auto, using(crate::proofs::LineEnds::goes_on), unfolding(crate::specs::Forms::store))]
 fn store(alloc: Global, line: &[u8], tokens: &[Token]) -> Result<Line, Stop>
     ensures { Gives (λ x. x) result (read forms.line_of forms.store (words line.now tokens.now)) }
 {
     let (value, rest) = typed(alloc, Kind::Stored, line, tokens)?;
     let (pointer, rest) = also(alloc, Kind::Pointer, line, rest)?;
     let (align, rest) = aligned(line, rest)?;
-    let form = stored(alloc, value, pointer, align.unwrap_or(1))?;
-    finish(line, rest, form)
+    let [] = rest else {
+        return Err(Stop::NotALine);
+    };
+    stored(alloc, value, pointer, align.unwrap_or(1))
 }
 
 /// The form of a store.

@@ -17,6 +17,7 @@ use crate::refusal::Stop;
 use crate::words::{all_ascii, is, is_first};
 use crate::{Line, LineRefusal};
 use ir_lex::{Token, text};
+use memchr::memchr;
 use std::alloc::Global;
 
 /// Whether a word begins with `!`.
@@ -36,8 +37,19 @@ fn begins_mark(line: &[u8], tokens: &[Token]) -> bool
     }
 }
 
-/// How many words stand before the first attachment.
+/// How many words stand before the first attachment. Most lines have no `!` at all, and then no word is looked at.
 fn attachment_at(line: &[u8], tokens: &[Token]) -> usize
+    ensures value { result ≡ body.attachment_at (words line.now tokens.now) }
+    ensures within { result ≤ length tokens.now }
+{
+    match memchr(b'!', line) {
+        None => tokens.len(),
+        Some(_) => marked_at(line, tokens),
+    }
+}
+
+/// The same, word by word.
+fn marked_at(line: &[u8], tokens: &[Token]) -> usize
     ensures value { result ≡ body.attachment_at (words line.now tokens.now) }
     ensures within { result ≤ length tokens.now }
 {

@@ -2,7 +2,7 @@
 use Rattle.std.proofs.Common.{◌≡◌, ◌+◌, length}
 use Rattle.ir_lex.specs.Words.{words}
 use Rattle.ir_line.specs.Body.{attachment_at}
-use Rattle.ir_line.proofs.body.attachment_at.Given as goal
+use Rattle.ir_line.proofs.body.marked_at.Given as goal
 
 abbrev pub invariant-each : goal.invariant-each
 invariant-each l = record {

@@ -3,7 +3,7 @@ use Rattle.std.proofs.Common.{◌≡◌, length}
 use Rattle.std.specs.List.{list_all}
 use Rattle.ir_lex.specs.Words.{words}
 use Rattle.ir_line.specs.Words.{is_ascii}
-use Rattle.ir_line.proofs.words.all_ascii.Given as goal
+use Rattle.ir_line.proofs.words.each_ascii.Given as goal
 
 abbrev pub invariant-each : goal.invariant-each
 invariant-each l = list_all is_ascii (words l.line l.rest) ≡ list_all is_ascii (words l.line l.tokens)
