@@ -311,12 +311,12 @@ any_for_poison (x ∷ xs) (a ∷ os) e = (tt, any_for_poison xs os cc)
 any_for_poison [] (a ∷ os) e = absurd cc
 any_for_poison (x ∷ xs) [] e = absurd cc
 
-length_set : {A : Type 0} (xs : List A) (at : ℕ) (x : A) → length (slice_set xs at x) ≡ length xs
+pub length_set : {A : Type 0} (xs : List A) (at : ℕ) (x : A) → length (slice_set xs at x) ≡ length xs
 length_set [] at x = refl
 length_set (y ∷ xs) zero x = refl
 length_set (y ∷ xs) (suc at) x = ap suc (length_set xs at x)
 
-length_map : {A B : Type 0} (f : A → B) (xs : List A) → length (map f xs) ≡ length xs
+pub length_map : {A B : Type 0} (f : A → B) (xs : List A) → length (map f xs) ≡ length xs
 length_map f [] = refl
 length_map f (x ∷ xs) = ap suc (length_map f xs)
 

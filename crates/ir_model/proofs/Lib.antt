@@ -10,4 +10,6 @@ pub mod Effects
 pub mod Steps
 pub mod Formed
 pub mod Renumbering
+pub mod Rows
+pub mod Acts
 pub mod Indices

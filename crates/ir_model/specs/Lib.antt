@@ -11,4 +11,6 @@ pub mod CallFree
 pub mod Fits
 pub mod Refines
 pub mod Monotone
+pub mod Shapes
+pub mod Causes
 pub mod Examples
