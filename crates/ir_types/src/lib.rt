@@ -30,10 +30,10 @@ pub use opd::Opd;
 pub use table::Table;
 pub use ty::{Elem, Ty};
 pub use vx_list::OutOfMemory;
-use vx_list::{Seq, Short};
+use vx_list::{Seq, Short, Text};
 
 /// Text as its bytes.
-pub type Bytes = Seq<u8>;
+pub type Bytes = Text;
 /// A list of texts that are names.
 pub type Names = Seq<Bytes>;
 /// A list of texts that are none.

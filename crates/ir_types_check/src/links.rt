@@ -259,8 +259,8 @@ pub(crate) fn link(
             stmt.args.as_slice(),
             stmt.labels.as_slice(),
         ),
-        Op::Call { callee, .. } => {
-            callee_of(alloc, tops, line, callee.as_slice())?;
+        Op::Call(site) => {
+            callee_of(alloc, tops, line, site.get().callee.as_slice())?;
             in_order(alloc, tops, locals, base, line, stmt)
         }
         _ => in_order(alloc, tops, locals, base, line, stmt),
@@ -271,7 +271,7 @@ pub(crate) fn link(
 pub(crate) fn lane_of(literal: &Literal) -> Lane
     ensures { result ≡ links.lane_of literal.now }
 {
-    match literal.lanes.as_slice() {
+    match literal.lanes.as_lanes().as_slice() {
         [] => None,
         [lane, ..] => *lane,
     }

@@ -65,8 +65,9 @@ fn op_fits(
     match &stmt.op {
         Op::Ret => Ok(same_ty(first_ty(stmt.args.as_slice()), ret)),
         Op::Phi { blocks } => phi_fits(alloc, locals, sources, here, stmt, blocks.as_slice()),
-        Op::Call { callee, .. } => {
-            Ok(calls(tops, callee.as_slice(), stmt.ty, stmt.args.as_slice()))
+        Op::Call(site) => {
+            let callee = site.get().callee.as_slice();
+            Ok(calls(tops, callee, stmt.ty, stmt.args.as_slice()))
         }
         op => {
             let targets = targets(alloc, locals, &stmt.labels, op)?;
