@@ -1,7 +1,7 @@
 // Small functions with the answers that follow by hand from their graphs, and a large one.
 
 use super::*;
-use ir_types::{Block, Func, Id, Inst, Numbers, Op, Opd, Param, Ty};
+use ir_types::{Block, Bytes, Func, Id, Inst, Lits, Numbers, Op, Opd, Param, Ty};
 use std::alloc::AllocError;
 use std::process::Abort;
 use vx_list::{Seq, Short};
@@ -229,19 +229,19 @@ fn module(alloc: Global, blocks: Vec<Block>) -> Result<Module, AllocError> {
         id: Id { region: 0, k: 0 },
         name: None,
         ty: Ty::Int(1),
-        attrs: Seq::new(alloc),
+        attrs: Bytes::new(alloc),
         noalias: false,
     })?;
     let func = Func {
-        before: Seq::new(alloc),
+        before: Bytes::new(alloc),
         ret: Ty::Void,
-        name: Seq::new(alloc),
+        name: Bytes::new(alloc),
         params,
-        after: Seq::new(alloc),
+        after: Bytes::new(alloc),
         blocks: Seq::from_vec(blocks),
     };
     let mut items = Seq::new(alloc);
-    items.push(Item::Kept(Seq::new(alloc)))?;
+    items.push(Item::Kept(Bytes::new(alloc)))?;
     items.push(Item::Func(func))?;
     Ok(Module {
         items,
@@ -282,7 +282,7 @@ fn op(alloc: Global, shape: Shape) -> Result<Op, AllocError> {
         CondBr(yes, no) => Ok(Op::CondBr { yes, no }),
         Switch(other, to) => Ok(Op::Switch {
             other,
-            cases: Short::new(alloc),
+            cases: Lits::new(alloc),
             to: numbers(alloc, to)?,
         }),
         Phi(blocks) => Ok(Op::Phi {

@@ -13,7 +13,7 @@ use ir_types::{Block, Bytes, Func, Id, Inst, Op, Param, Ty};
 use std::alloc::{AllocError, Global};
 use std::collections::HashMap;
 use std::marker::Model;
-use vx_list::{Seq, TryClone};
+use vx_list::TryClone;
 
 /// A value with what is shown of it.
 #[derive(Drop)]
@@ -61,7 +61,7 @@ fn shown(alloc: Global, n: u64, name: &Option<Bytes>) -> Result<Bytes, AllocErro
         None => {
             let mut digits = Vec::new(alloc);
             push_decimal(&mut digits, n)?;
-            Ok(Seq::from_vec(digits))
+            Bytes::from_vec(alloc, digits)
         }
     }
 }

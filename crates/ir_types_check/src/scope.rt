@@ -13,7 +13,6 @@ use indexmap::IndexMap;
 use ir_types::Bytes;
 use std::alloc::{AllocError, Global};
 use std::marker::Model;
-use vx_list::Seq;
 
 /// The names defined so far.
 #[derive(Drop)]
@@ -36,15 +35,14 @@ pub(crate) fn with_sigil(alloc: Global, sigil: u8, name: &[u8]) -> Result<Bytes,
     let mut whole = Vec::with_capacity(alloc, 1)?;
     whole.push(sigil)?;
     whole.extend_from_slice(name)?;
-    Ok(Seq::from_vec(whole))
+    Bytes::from_vec(alloc, whole)
 }
 
 /// A copy of a name or of another text, made in one piece.
 pub(crate) fn copied(alloc: Global, text: &[u8]) -> Result<Bytes, AllocError>
     ensures { IfOk result (λ copy. copy ≡ text.now) }
 {
-    let copy = Vec::from_slice(alloc, text)?;
-    Ok(Seq::from_vec(copy))
+    Bytes::from_slice(alloc, text)
 }
 
 impl<T: Drop> Scope<T> {

@@ -12,9 +12,9 @@ mod equality;
 mod roomy;
 mod seq;
 mod short;
-mod text;
 #[cfg(test)]
 mod tests;
+mod text;
 
 pub use boxed::Boxed;
 pub use copying::TryClone;
