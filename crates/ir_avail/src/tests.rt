@@ -1,7 +1,7 @@
 //! A small function with the answer that follows by hand from its graph, and large ones. Rows of texts stand in the crate `rows`.
 
 use super::*;
-use ir_types::{Block, Func, Id, Inst, Op, Opd, Param, Ty};
+use ir_types::{Block, Bytes, Func, Id, Inst, Op, Opd, Param, Ty};
 use std::alloc::AllocError;
 use std::process::Abort;
 use vx_list::{Seq, Short};
@@ -127,19 +127,19 @@ fn module(alloc: Global, blocks: Vec<Block>) -> Result<Module, AllocError> {
         id: Id { region: 0, k: 0 },
         name: None,
         ty: Ty::Int(1),
-        attrs: Seq::new(alloc),
+        attrs: Bytes::new(alloc),
         noalias: false,
     })?;
     let func = Func {
-        before: Seq::new(alloc),
+        before: Bytes::new(alloc),
         ret: Ty::Void,
-        name: Seq::new(alloc),
+        name: Bytes::new(alloc),
         params,
-        after: Seq::new(alloc),
+        after: Bytes::new(alloc),
         blocks: Seq::from_vec(blocks),
     };
     let mut items = Seq::new(alloc);
-    items.push(Item::Kept(Seq::new(alloc)))?;
+    items.push(Item::Kept(Bytes::new(alloc)))?;
     items.push(Item::Func(func))?;
     Ok(Module {
         items,

@@ -104,7 +104,7 @@ fn leave(alloc: Global, op: &Op, values: &[Value]) -> Result<Ended, OutOfMemory>
         (Op::Switch { other, cases, to }, [Value::Lane(Some(n))]) => Ok(Ended::Goes(chosen(
             *n,
             *other,
-            cases.as_slice(),
+            cases.as_lanes().as_slice(),
             to.as_slice(),
         ))),
         _ => Ok(Ended::Stops),

@@ -72,7 +72,7 @@ pub(crate) fn bytes_of(alloc: Global, ty: Ty, value: &Value) -> Result<Option<Ob
         (Ty::Row { w, .. }, Value::Row(lanes)) => Ok(Some(row_bytes(
             alloc,
             usize::from(w / 8),
-            lanes.as_slice(),
+            lanes.as_lanes().as_slice(),
         )?)),
         _ => Ok(None),
     }

@@ -79,7 +79,7 @@ impl Environment {
 fn literal_value(alloc: Global, literal: &Literal) -> Result<Value, OutOfMemory>
     ensures { IfOk result (λ value. value ≡ literal_value literal.now.ty literal.now.lanes) }
 {
-    match (literal.ty, literal.lanes.as_slice()) {
+    match (literal.ty, literal.lanes.as_lanes().as_slice()) {
         (Ty::Int(_), [lane]) => Ok(Value::Lane(*lane)),
         (Ty::Row { .. }, _) => Ok(Value::Row(literal.lanes.try_clone(alloc)?)),
         _ => Ok(Value::Ptr(None)),

@@ -60,7 +60,7 @@ fn result_of(
         (Op::Insert, _, _) => insert_value(alloc, ty, values),
         (Op::Shuffle { mask }, Ty::Row { .. }, [vector, _]) => shuffle_value(
             alloc,
-            mask.as_slice(),
+            mask.as_lanes().as_slice(),
             *vector,
             values,
         ),

@@ -80,8 +80,8 @@ fn paired(
         },
         (Ty::Row { .. }, [Value::Row(left), Value::Row(right)]) => Ok(row(by.each_pair(
             alloc,
-            left.as_slice(),
-            right.as_slice(),
+            left.as_lanes().as_slice(),
+            right.as_lanes().as_slice(),
         )?)),
         _ => Ok(None),
     }
@@ -113,7 +113,7 @@ pub(crate) fn cast_value(
             nneg,
             source,
             target,
-            lanes.as_slice(),
+            lanes.as_lanes().as_slice(),
         )?))),
         _ => Ok(None),
     }
@@ -155,14 +155,14 @@ pub(crate) fn select_value(
             *c, *p, *q,
         )))),
         (Ty::Row { .. }, [Value::Lane(c), Value::Row(left), Value::Row(right)]) => Ok(row(
-            Pairing::Choice(*c).each_pair(alloc, left.as_slice(), right.as_slice())?,
+            Pairing::Choice(*c).each_pair(alloc, left.as_lanes().as_slice(), right.as_lanes().as_slice())?,
         )),
         (Ty::Row { .. }, [Value::Row(conditions), Value::Row(left), Value::Row(right)]) => Ok(row(
             chosen_lanes(
                 alloc,
-                conditions.as_slice(),
-                left.as_slice(),
-                right.as_slice(),
+                conditions.as_lanes().as_slice(),
+                left.as_lanes().as_slice(),
+                right.as_lanes().as_slice(),
             )?,
         )),
         _ => Ok(None),

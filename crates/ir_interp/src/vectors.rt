@@ -18,7 +18,7 @@ pub(crate) fn extract_value(ty: Ty, values: &[Value]) -> Option<Value>
     match (ty, values) {
         (Ty::Row { n, .. }, [Value::Row(lanes), Value::Lane(index)]) => {
             if lanes.len() == usize::from(n) {
-                Some(Value::Lane(lane_at(lanes.as_slice(), *index)))
+                Some(Value::Lane(lane_at(lanes.as_lanes().as_slice(), *index)))
             } else {
                 None
             }
@@ -48,7 +48,7 @@ pub(crate) fn insert_value(
     match (ty, values) {
         (Ty::Row { n, .. }, [Value::Row(lanes), Value::Lane(lane), Value::Lane(index)]) => {
             if lanes.len() == usize::from(n) {
-                Ok(Some(Value::Row(with_lane_at(alloc, lanes.as_slice(), *lane, *index)?)))
+                Ok(Some(Value::Row(with_lane_at(alloc, lanes.as_lanes().as_slice(), *lane, *index)?)))
             } else {
                 Ok(None)
             }
@@ -112,7 +112,7 @@ pub(crate) fn shuffle_value(
     match (ty, values) {
         (Ty::Row { n, .. }, [Value::Row(left), Value::Row(right)]) => {
             if left.len() == usize::from(n) && right.len() == usize::from(n) {
-                Ok(Some(Value::Row(shuffled(alloc, mask, left.as_slice(), right.as_slice())?)))
+                Ok(Some(Value::Row(shuffled(alloc, mask, left.as_lanes().as_slice(), right.as_lanes().as_slice())?)))
             } else {
                 Ok(None)
             }

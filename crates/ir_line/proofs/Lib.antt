@@ -1,3 +1,4 @@
+pub mod Arguments
 pub mod Answering
 pub mod Bodies
 pub mod BodyLines

@@ -130,7 +130,7 @@ abbrev pub called : List ℕ → Option (List ℕ) → List Token → List Token
 called line x tail pre t callee i post = lines.Stmt (record {
   result = x;
   ty = t;
-  op = ops.Call (span line tail) (span line pre) callee i.attrs (span line post);
+  op = ops.Call (record { tail = span line tail; pre = span line pre; callee = callee; attrs = i.attrs; post = span line post });
   args = i.args;
   labels = [];
 })
@@ -171,7 +171,7 @@ abbrev plain : List ℕ
 plain = codes "call void @k()"
 
 -- the parts that are absent are empty
-plain_call : call plain (cut plain) ≡ Some (lines.Stmt (record { result = None; ty = Void; op = ops.Call [] [] (codes "k") [] []; args = []; labels = [] }))
+plain_call : call plain (cut plain) ≡ Some (lines.Stmt (record { result = None; ty = Void; op = ops.Call (record { tail = []; pre = []; callee = codes "k"; attrs = []; post = [] }); args = []; labels = [] }))
 unfolding cut string_len name_len more_len begins_name is_word_byte is_digit is_sigil is_mark is_blank word local_of named symbol_of ret_of arguments_at call_behind call_for call
 plain_call = refl
 

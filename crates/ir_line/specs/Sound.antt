@@ -24,7 +24,7 @@ IsSoundOpd t _ = Unit {0}
 abbrev pub IsSoundOp : Op → Ty → List (Option Ty) → Type 0
 IsSoundOp Ret t tys = (t ≡ Void) × ((tys ≡ []) ⊎ ((u : Ty) × (is_value u ≡ true) × (tys ≡ Some u ∷ [])))
 IsSoundOp (Switch other cases to) t tys = (w : ℕ) × (is_width w ≡ true) × (t ≡ Void) × (tys ≡ Some (Int w) ∷ [])
-IsSoundOp (Call tail pre callee attrs post) t tys = length attrs ≡ length tys
+IsSoundOp (Call site) t tys = length site.attrs ≡ length tys
 IsSoundOp op t tys = IsTyped Void op t tys
 
 abbrev pub written_types : List Arg → List (Option Ty)
@@ -44,7 +44,7 @@ pub record IsSound (s : Stmt) : Type 0 where
   pub places : HasPlaces s.op (length s.labels)
 
 abbrev pub IsCallOp : Op → Type 0
-IsCallOp (Call tail pre callee attrs post) = Unit {0}
+IsCallOp (Call site) = Unit {0}
 IsCallOp _ = ⊥
 
 -- the literal of a case is a number of its width

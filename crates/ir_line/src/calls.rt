@@ -20,8 +20,9 @@ use crate::values::is_plain;
 use crate::words::{is, is_first};
 use crate::{Arg, Args, Line, Stmt, Written};
 use ir_lex::{Token, text};
-use ir_types::{Bytes, Names, Op, Texts, Ty};
+use ir_types::{Bytes, CallSite, Names, Op, Texts, Ty};
 use std::alloc::Global;
+use vx_list::Boxed;
 
 /// The arguments of a call.
 #[derive(Debug, Drop)]
@@ -274,7 +275,7 @@ fn called(
     ensures { Gives (λ x. x) result (Some (calls.called line.now name tail.now pre.now ty callee found post.now)) }
 {
     let Arguments { args, attrs } = found;
-    let op = Op::Call {
+    let site = CallSite {
         tail: span(alloc, line, tail)?,
         pre: span(alloc, line, pre)?,
         callee,
@@ -284,7 +285,7 @@ fn called(
     Ok(Line::Stmt(Stmt {
         result: name,
         ty,
-        op,
+        op: Op::Call(Boxed::new(alloc, site)?),
         args,
         labels: Names::new(alloc),
     }))

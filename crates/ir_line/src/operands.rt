@@ -173,7 +173,7 @@ fn masked_by(ty: Ty, row: Ty, entries: Lits) -> Result<(Ty, Lits), Stop>
     ensures { Gives (λ x. x) result (reading.masked_by ty row entries) }
 {
     let shuffled = row_of(u64::from(lanes_of(row)), bits_of(ty))?;
-    if all_entries(2 * u64::from(lanes_of(ty)), entries.as_slice()) {
+    if all_entries(2 * u64::from(lanes_of(ty)), entries.as_lanes().as_slice()) {
         return Ok((shuffled, entries));
     }
     Err(Stop::NotALine)

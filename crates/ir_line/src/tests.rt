@@ -184,17 +184,11 @@ fn is_call(stmt: &Stmt, parts: [&[u8]; 8]) -> bool {
         None => false,
     };
     let calls = match &stmt.op {
-        Op::Call {
-            tail: t,
-            pre: p,
-            callee: c,
-            attrs,
-            post: q,
-        } => says(t, tail)
-            && says(p, pre)
-            && says(c, callee)
-            && says(q, post)
-            && has_attrs(attrs, first, second),
+        Op::Call(site) => says(&site.get().tail, tail)
+            && says(&site.get().pre, pre)
+            && says(&site.get().callee, callee)
+            && says(&site.get().post, post)
+            && has_attrs(&site.get().attrs, first, second),
         _ => false,
     };
     named && calls && stmt.ty == Ty::Int(32) && stmt.args.len() == 2 && stmt.labels.is_empty()
@@ -225,17 +219,11 @@ fn calls_are_read(rt: HostRuntime) -> Result<(), LexRefusal> {
 /// Whether a statement is a call of `k` without any more.
 fn is_bare_call(stmt: &Stmt) -> bool {
     let calls = match &stmt.op {
-        Op::Call {
-            tail,
-            pre,
-            callee,
-            attrs,
-            post,
-        } => tail.is_empty()
-            && pre.is_empty()
-            && says(callee, b"k")
-            && attrs.is_empty()
-            && post.is_empty(),
+        Op::Call(site) => site.get().tail.is_empty()
+            && site.get().pre.is_empty()
+            && says(&site.get().callee, b"k")
+            && site.get().attrs.is_empty()
+            && site.get().post.is_empty(),
         _ => false,
     };
     calls
@@ -253,7 +241,7 @@ fn has_arguments(stmt: &Stmt) -> bool {
             && c.ty == Ty::Int(32)
             && matches!(&a.opd, Written::Local(name) if says(name, b"a"))
             && matches!(&b.opd, Written::Symbol(name) if says(name, b"g"))
-            && matches!(&c.opd, Written::Lit(literal) if literal.lanes.as_slice() == [Some(4294967295)].as_slice()),
+            && matches!(&c.opd, Written::Lit(literal) if literal.lanes.as_lanes().as_slice() == [Some(4294967295)].as_slice()),
         _ => false,
     }
 }

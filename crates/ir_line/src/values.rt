@@ -183,7 +183,7 @@ pub(crate) fn lane_of(w: u8, word: &[u8]) -> Result<Lane, Stop>
 pub(crate) fn copied(alloc: Global, bytes: &[u8]) -> Result<Bytes, AllocError>
     ensures { IfOk result (λ x. x ≡ bytes.now) }
 {
-    Ok(Bytes::from_vec(Vec::from_slice(alloc, bytes)?))
+    Bytes::from_slice(alloc, bytes)
 }
 
 /// Digits without their leading zeros.

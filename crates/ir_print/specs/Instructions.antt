@@ -242,7 +242,7 @@ module _ (ns : Names) (gs : List (List ℕ)) where
   act_text (CondBr b c) ty os = cond_text b c os
   act_text (Switch other cases to) ty os = switch_text other cases to os
   act_text Unreachable ty os = codes "unreachable"
-  act_text (Call tail pre callee attrs post) ty os = call_text tail pre callee attrs post ty os
+  act_text (Call site) ty os = call_text site.tail site.pre site.callee site.attrs site.post ty os
 
   -- one instruction on its line, a `switch` on several
   abbrev pub inst_text : Inst → List ℕ

@@ -34,7 +34,7 @@ fn push_act(
         Op::Select => push_select(out, names, globals, opds),
         Op::Extract => push_extract(out, names, globals, opds),
         Op::Insert => push_insert(out, names, globals, opds),
-        Op::Shuffle { mask } => push_shuffle(out, names, globals, mask.as_slice(), opds),
+        Op::Shuffle { mask } => push_shuffle(out, names, globals, mask.as_lanes().as_slice(), opds),
         Op::Gep { elem, inbounds } => push_gep(out, names, globals, *elem, *inbounds, opds),
         Op::Load { align } => push_load(out, names, globals, *align, ty, opds),
         Op::Store { align } => push_store(out, names, globals, *align, ty, opds),
@@ -49,28 +49,23 @@ fn push_act(
                 names,
                 globals,
                 *other,
-                cases.as_slice(),
+                cases.as_lanes().as_slice(),
                 to.as_slice(),
                 opds,
             )
         }
         Op::Unreachable => push_unreachable(out),
-        Op::Call {
-            tail,
-            pre,
-            callee,
-            attrs,
-            post,
-        } => {
+        Op::Call(site) => {
+            let site = site.get();
             push_call(
                 out,
                 names,
                 globals,
-                tail.as_slice(),
-                pre.as_slice(),
-                callee.as_slice(),
-                attrs.as_slice(),
-                post.as_slice(),
+                site.tail.as_slice(),
+                site.pre.as_slice(),
+                site.callee.as_slice(),
+                site.attrs.as_slice(),
+                site.post.as_slice(),
                 ty,
                 opds,
             )

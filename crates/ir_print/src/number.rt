@@ -136,8 +136,8 @@ pub(crate) fn push_literal(out: &mut Vec<u8>, literal: &Literal) -> Result<(), A
             out.extend_from_slice(b"poison")?;
             Ok(())
         }
-        Ty::Int(w) => push_scalar(out, w, literal.lanes.as_slice()),
-        Ty::Row { n: _, w } => push_vector(out, w, literal.lanes.as_slice()),
+        Ty::Int(w) => push_scalar(out, w, literal.lanes.as_lanes().as_slice()),
+        Ty::Row { n: _, w } => push_vector(out, w, literal.lanes.as_lanes().as_slice()),
     }
 }
 

@@ -10,7 +10,6 @@ use crate::names::Names;
 use crate::operand::push_local;
 use ir_types::{Bytes, Func, Id, OutOfMemory};
 use std::alloc::Global;
-use vx_list::Seq;
 
 /// What the text of a function shows of the value of an id: `%` and its written name or its number. Nothing of an id that is no
 /// value of the function.
@@ -20,5 +19,5 @@ pub fn shown_name(alloc: Global, func: &Func, id: Id) -> Result<Bytes, OutOfMemo
     let names = Names::of(alloc, func)?;
     let mut name = Vec::new(alloc);
     push_local(&mut name, &names, id)?;
-    Ok(Seq::from_vec(name))
+    Bytes::from_vec(alloc, name)
 }

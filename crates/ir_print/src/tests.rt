@@ -2,7 +2,9 @@
 //! rule of numbering and spacing in it.
 
 use crate::print;
-use ir_types::{Block, Elem, Func, Id, Inst, Item, Literal, Module, Op, Opd, Param, Ty};
+use ir_types::{
+    Block, Bytes, Elem, Func, Id, Inst, Item, Literal, Lits, Module, Op, Opd, Param, Ty,
+};
 use std::alloc::Global;
 use std::test::Fail;
 use vx_list::{Seq, Short};
@@ -15,12 +17,12 @@ fn id(k: u32) -> Id {
     Id { region: 0, k }
 }
 
-fn text(alloc: Global, bytes: &[u8]) -> Result<Seq<u8>, Fail> {
-    Ok(Seq::from_vec(Vec::from_slice(alloc, bytes)?))
+fn text(alloc: Global, bytes: &[u8]) -> Result<Bytes, Fail> {
+    Ok(Bytes::from_slice(alloc, bytes)?)
 }
 
 fn literal(alloc: Global, ty: Ty, lanes: &[Lane]) -> Result<Opd, Fail> {
-    let mut all = Short::new(alloc);
+    let mut all = Lits::new(alloc);
     for lane in lanes {
         all.push(*lane)?;
     }
@@ -53,7 +55,7 @@ fn block(insts: Vec<Inst>) -> Block {
 }
 
 fn first_block(alloc: Global) -> Result<Block, Fail> {
-    let mut cases = Short::new(alloc);
+    let mut cases = Lits::new(alloc);
     cases.push(Some(255u64))?;
     cases.push(Some(5))?;
     let to = numbers(alloc, [1u32, 2].as_slice())?;
@@ -153,7 +155,7 @@ fn function(alloc: Global) -> Result<Func, Fail> {
         id: id(0),
         name: None,
         ty: Ty::Int(1),
-        attrs: Seq::new(alloc),
+        attrs: Bytes::new(alloc),
         noalias: false,
     };
     let name = Some(text(alloc, b"p")?);
@@ -170,11 +172,11 @@ fn function(alloc: Global) -> Result<Func, Fail> {
         third_block(alloc)?,
     ]?;
     Ok(Func {
-        before: Seq::new(alloc),
+        before: Bytes::new(alloc),
         ret: Ty::Int(32),
         name: text(alloc, b"f")?,
         params: Seq::from_vec(vec![in alloc; condition, pointer]?),
-        after: Seq::new(alloc),
+        after: Bytes::new(alloc),
         blocks: Seq::from_vec(blocks),
     })
 }

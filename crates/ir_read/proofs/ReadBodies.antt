@@ -121,7 +121,7 @@ is_open_cases Between e = clash (sym e)
 -- ---- lines
 
 no_call : (p : Position) (op : Op) → is_foreign p op ≡ false → IsCallOp op → ⊥
-no_call p (ops.Call tail pre callee attrs post) e c = clash e
+no_call p (ops.Call site) e c = clash e
 no_call p _ e c = c
 
 in_front : (p : Position) (op : Op) → is_foreign p op ≡ false → is_alloca op ≡ true → (opened p).blocks ≡ 1

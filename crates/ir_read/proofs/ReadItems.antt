@@ -119,7 +119,7 @@ IsAllowedLine names (line.Stmt s) = (IsCallOp s.op → ⊥) × (any_barred names
 IsAllowedLine names _ = Unit {0}
 
 no_call : (p : Position) (op : Op) → is_foreign p op ≡ false → IsCallOp op → ⊥
-no_call p (ops.Call tail pre callee attrs post) e c = clash e
+no_call p (ops.Call site) e c = clash e
 no_call p _ e c = c
 
 allowed : (names : List (List ℕ)) (p : Position) (s : Stmt) → is_outside names p s ≡ false → IsAllowedLine names (line.Stmt s)

@@ -31,7 +31,7 @@ any_barred names (a ∷ args) = is_barred names a.opd || any_barred names args
 -- whether an operation is outside the profile: an `alloca` outside the first block, or a call
 abbrev pub is_foreign : Position → Op → Bool
 is_foreign p (Alloca elem align) = not (in_first p)
-is_foreign p (Call tail pre callee attrs post) = true
+is_foreign p (Call site) = true
 is_foreign p _ = false
 
 -- whether an instruction is outside the profile

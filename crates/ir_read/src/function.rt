@@ -42,7 +42,7 @@ fn is_foreign(at: Position, op: &Op) -> bool
 {
     match op {
         Op::Alloca { .. } => !at.in_first(),
-        Op::Call { .. } => true,
+        Op::Call(_) => true,
         _ => false,
     }
 }

@@ -108,8 +108,8 @@ IsIncoming func number _ opds = Unit {0}
 
 -- a call names a function of the module, gives what that returns, and takes what its parameters are
 abbrev pub IsCalling : Module → Op → Ty → List (Option Ty) → Type 0
-IsCalling m (Call tail pre callee attrs post) t tys =
-    (f : Func) × Contains m.items (FuncItem f) × (f.name ≡ callee) × (t ≡ f.ret) × (tys ≡ map (λ (p : Param). Some p.ty) f.params)
+IsCalling m (Call site) t tys =
+    (f : Func) × Contains m.items (FuncItem f) × (f.name ≡ site.callee) × (t ≡ f.ret) × (tys ≡ map (λ (p : Param). Some p.ty) f.params)
 IsCalling m _ t tys = Unit {0}
 
 -- an instruction of a block: its parts, types, targets, incoming blocks and callee

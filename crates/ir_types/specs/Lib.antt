@@ -1,3 +1,4 @@
+pub mod Lits
 pub mod Walks
 pub mod Available
 pub mod Typed

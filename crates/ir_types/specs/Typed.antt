@@ -162,4 +162,4 @@ IsTyped ret (Switch other cases to) t tys =
     (w : ℕ) × (is_width w ≡ true) × (t ≡ Void) × (length cases ≡ length to) × All (IsCase w) cases × AllPairs (λ a b. a ≡ b → ⊥) cases
     × (tys ≡ Some (Int w) ∷ [])
 IsTyped ret Unreachable t tys = (t ≡ Void) × (tys ≡ [])
-IsTyped ret (Call tail pre callee attrs post) t tys = length attrs ≡ length tys
+IsTyped ret (Call site) t tys = length site.attrs ≡ length tys

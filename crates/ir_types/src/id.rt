@@ -36,6 +36,10 @@ impl TryClone for Id {
     fn try_clone(&self, _alloc: Global) -> Result<Self, AllocError> {
         Ok(*self)
     }
+
+    fn clone_all(items: &[Id], alloc: Global) -> Result<Vec<Id>, AllocError> {
+        Vec::from_slice(alloc, items)
+    }
 }
 
 impl Equal for Id {

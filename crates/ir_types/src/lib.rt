@@ -5,31 +5,35 @@
 //! only failure) and compared (`Equal`, which is equality).
 #![tactic(auto)]
 
+mod call_site;
 mod func;
 mod id;
 mod inst;
 mod literal;
+mod lits;
 mod module;
 mod op;
 mod opd;
+mod sizes;
 mod table;
 mod ty;
 
+pub use call_site::CallSite;
 pub use func::{Block, Func, Param};
 pub use id::{Id, Place, Use};
 pub use inst::Inst;
 pub use literal::Literal;
+pub use lits::{Lanes, Lits};
 pub use module::{Item, Module};
 pub use op::Op;
 pub use opd::Opd;
 pub use table::Table;
 pub use ty::{Elem, Ty};
 pub use vx_list::OutOfMemory;
-use vx_list::{Seq, Short};
-use vx_num::Lane;
+use vx_list::{Seq, Short, Text};
 
 /// Text as its bytes.
-pub type Bytes = Seq<u8>;
+pub type Bytes = Text;
 /// A list of texts that are names.
 pub type Names = Seq<Bytes>;
 /// A list of texts that are none.
@@ -38,10 +42,8 @@ pub type Texts = Seq<Bytes>;
 pub type Numbers = Seq<u32>;
 /// A list of ids.
 pub type Ids = Seq<Id>;
-/// A list of lanes, of which most have one.
-pub type Lits = Short<Lane, 1>;
-/// A list of operands, of which few instructions have more than three.
-pub type Opds = Short<Opd, 3>;
+/// A list of operands, of which most instructions have one or two.
+pub type Opds = Short<Opd, 2>;
 /// A list of instructions.
 pub type Insts = Seq<Inst>;
 /// A list of parameters.

@@ -1,12 +1,13 @@
 //! What an instruction does, apart from its operands: one variant a form.
 //!
-//! A block is named by its number from 0 in its function. Aligns are powers of two from 1 to 2^32, in bytes.
+//! A block is named by its number from 0 in its function. Aligns are powers of two from 1 to 2^32, in bytes. The parts of a `call`
+//! stand behind a pointer, so that the other forms are small; contracts see through it.
 
 ghost use Rattle.std.specs.Prelude.{◌≡◌, IfOk};
 
-use crate::{Bytes, Elem, Lits, Numbers, Texts};
+use crate::{CallSite, Elem, Lits, Numbers};
 use std::alloc::{AllocError, Global};
-use vx_list::{Equal, TryClone};
+use vx_list::{Boxed, Equal, TryClone};
 use vx_num::{BinOp, CastOp, Flags, Pred};
 
 /// The operation of an instruction (Language Reference, "Instruction Reference").
@@ -77,14 +78,8 @@ pub enum Op {
     },
     /// `unreachable`.
     Unreachable,
-    /// `call` of a function of the module, on its arguments; the rest are kept texts, `attrs` one for each argument.
-    Call {
-        tail: Bytes,
-        pre: Bytes,
-        callee: Bytes,
-        attrs: Texts,
-        post: Bytes,
-    },
+    /// `call` of a function of the module, on its arguments.
+    Call(Boxed<CallSite>),
 }
 
 impl TryClone for Op {
@@ -123,13 +118,7 @@ impl TryClone for Op {
             Op::CondBr { yes, no } => Ok(Op::CondBr { yes: *yes, no: *no }),
             Op::Switch { other, cases, to } => switch_copy(alloc, *other, cases, to),
             Op::Unreachable => Ok(Op::Unreachable),
-            Op::Call {
-                tail,
-                pre,
-                callee,
-                attrs,
-                post,
-            } => call_copy(alloc, tail, pre, callee, attrs, post),
+            Op::Call(site) => Ok(Op::Call(site.try_clone(alloc)?)),
         }
     }
 }
@@ -142,26 +131,6 @@ fn switch_copy(alloc: Global, other: u32, cases: &Lits, to: &Numbers) -> Result<
         other,
         cases: cases.try_clone(alloc)?,
         to: to.try_clone(alloc)?,
-    })
-}
-
-/// A copy of a `call`.
-fn call_copy(
-    alloc: Global,
-    tail: &Bytes,
-    pre: &Bytes,
-    callee: &Bytes,
-    attrs: &Texts,
-    post: &Bytes,
-) -> Result<Op, AllocError>
-    ensures { IfOk result (λ copy. copy ≡ Op.Call tail.now pre.now callee.now attrs.now post.now) }
-{
-    Ok(Op::Call {
-        tail: tail.try_clone(alloc)?,
-        pre: pre.try_clone(alloc)?,
-        callee: callee.try_clone(alloc)?,
-        attrs: attrs.try_clone(alloc)?,
-        post: post.try_clone(alloc)?,
     })
 }
 
@@ -199,26 +168,7 @@ impl Equal for Op {
                 },
             ) => { other.equal(o) && cases.equal(c) && to.equal(t) }
             (Op::Unreachable, Op::Unreachable) => true,
-            (
-                Op::Call {
-                    tail,
-                    pre,
-                    callee,
-                    attrs,
-                    post,
-                },
-                Op::Call {
-                    tail: t,
-                    pre: p,
-                    callee: c,
-                    attrs: a,
-                    post: q,
-                },
-            ) => tail.equal(t)
-                && pre.equal(p)
-                && callee.equal(c)
-                && attrs.equal(a)
-                && post.equal(q),
+            (Op::Call(site), Op::Call(other)) => site.equal(other),
             _ => false,
         }
     }

@@ -68,7 +68,7 @@ alloca_same blocks cases (ops.Switch other values to) = refl
 alloca_same blocks cases _ = refl
 
 no_calling : (m : Module) (blocks : List ℕ) (cases : Cases) (op : Op) (t : Ty) (tys : List (Option Ty)) → (IsCallOp op → ⊥) → IsCalling m (op_of blocks cases op) t tys
-no_calling m blocks cases (ops.Call tail pre callee attrs post) t tys uncalled = absurd (uncalled tt)
+no_calling m blocks cases (ops.Call site) t tys uncalled = absurd (uncalled tt)
 no_calling m blocks cases (ops.Phi places) t tys uncalled = tt
 no_calling m blocks cases (ops.Br to) t tys uncalled = tt
 no_calling m blocks cases (ops.CondBr first second) t tys uncalled = tt

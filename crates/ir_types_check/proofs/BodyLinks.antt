@@ -119,7 +119,7 @@ module _ (tops : Scope Top) (locals : Scope Meaning) (base n : ℕ) where
     here (ops.Phi places) uncalled placed e =
         let p : Paired (record { opds = []; blocks = [] }) l s.args s.labels = pairs_are 0 places (record { opds = []; blocks = [] }) s.args s.labels l placed e in
         record { opds = subst (AllZip (IsOpdOf tops locals base n) s.args) (sym p.opds_is) p.opds_zip; blocks = subst (AllZip (Means locals) s.labels) (sym p.blocks_is) p.blocks_zip }
-    here (ops.Call tail pre callee attrs post) uncalled placed e = absurd (uncalled tt)
+    here (ops.Call site) uncalled placed e = absurd (uncalled tt)
     here _ uncalled placed e = in_order_are s l e
 
 -- ---- places of labels

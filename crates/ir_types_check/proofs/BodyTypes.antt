@@ -115,5 +115,5 @@ op_typed tops locals ret edges here s blocks cases ops.Ret uncalled h f c = (
 op_typed tops locals ret edges here s blocks cases (ops.Switch other values to) uncalled h f c =
     let g : FitCases h.0 cases = c h.0 (first_is s.args (Int h.0) h.3) in
     (h.0, h.1, h.2, g.many, g.each, g.once, h.3)
-op_typed tops locals ret edges here s blocks cases (ops.Call tail pre callee attrs post) uncalled h f c = absurd (uncalled tt)
+op_typed tops locals ret edges here s blocks cases (ops.Call site) uncalled h f c = absurd (uncalled tt)
 op_typed tops locals ret edges here s blocks cases _ uncalled h f c = h

@@ -107,7 +107,7 @@ module _ (FineStmt : Stmt → Type 0) (FineOpd : Written → Type 0) (args : (s 
     linked_found s l fine e = here s.op e where
       here : (op : Op) → linked_by tops locals base n s op ≡ Ok l → All IsFineOpd l.opds
       here (ops.Phi places) e = pairs_found (record { opds = []; blocks = [] }) s.args s.labels l (All-nil IsFineOpd) fine e
-      here (ops.Call tail pre callee attrs post) e = bind_ok (callee_of n callee (meaning callee tops)) _ l e (λ _ _ now. in_order_found s l fine now)
+      here (ops.Call site) e = bind_ok (callee_of n site.callee (meaning site.callee tops)) _ l e (λ _ _ now. in_order_found s l fine now)
       here _ e = in_order_found s l fine e
 
     pub inst_found : (k : ℕ) (s : Stmt) (rest : List Numbered) (inst : Inst) → FineStmt s → inst_of tops locals base k n s rest ≡ Ok inst → IsFineInst inst

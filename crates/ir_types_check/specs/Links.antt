@@ -80,7 +80,7 @@ pairs_onto tops locals base n done _ _ = Ok done
 -- what the names of a statement stand for: of a `phi` by turns, of a call behind its callee
 abbrev pub linked_by : Scope Top → Scope Meaning → ℕ → ℕ → Stmt → Op → Result Linked ResolveRefusal
 linked_by tops locals base n s (Phi blocks) = pairs_onto tops locals base n (record { opds = []; blocks = [] }) s.args s.labels
-linked_by tops locals base n s (Call tail pre callee attrs post) = callee_of n callee (meaning callee tops) >>= λ _. in_order tops locals base n s
+linked_by tops locals base n s (Call site) = callee_of n site.callee (meaning site.callee tops) >>= λ _. in_order tops locals base n s
 linked_by tops locals base n s _ = in_order tops locals base n s
 
 abbrev pub linked : Scope Top → Scope Meaning → ℕ → ℕ → Stmt → Result Linked ResolveRefusal

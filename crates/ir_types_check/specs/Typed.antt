@@ -190,7 +190,7 @@ phi_fits locals sources here s places =
 abbrev pub op_fits : Scope Top → Scope Meaning → Ty → List (List ℕ) → ℕ → Stmt → Op → Bool
 op_fits tops locals ret sources here s Ret = same_ty (first_ty s.args) ret
 op_fits tops locals ret sources here s (Phi places) = phi_fits locals sources here s places
-op_fits tops locals ret sources here s (Call tail pre callee attrs post) = calls s.ty s.args (meaning callee tops)
+op_fits tops locals ret sources here s (Call site) = calls s.ty s.args (meaning site.callee tops)
 op_fits tops locals ret sources here s op = list_all is_target (targets locals s.labels op)
 
 abbrev pub stmt_fits : Scope Top → Scope Meaning → Ty → List (List ℕ) → ℕ → Stmt → Bool

@@ -280,8 +280,8 @@ impl Linked {
                     stmt.labels.as_slice(),
                 )
             }
-            Op::Call { callee, .. } => {
-                callee_of(alloc, known.tops, line, callee.as_slice())?;
+            Op::Call(site) => {
+                callee_of(alloc, known.tops, line, site.get().callee.as_slice())?;
                 self.add_in_order(alloc, known, line, stmt, fits)
             }
             _ => self.add_in_order(alloc, known, line, stmt, fits),
@@ -293,7 +293,7 @@ impl Linked {
 pub(crate) fn lane_of(literal: &Literal) -> Lane
     ensures { result ≡ links.lane_of literal.now }
 {
-    match literal.lanes.as_slice() {
+    match literal.lanes.as_lanes().as_slice() {
         [] => None,
         [lane, ..] => *lane,
     }

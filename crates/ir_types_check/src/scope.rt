@@ -15,7 +15,6 @@ use ir_types::Bytes;
 use std::alloc::{AllocError, Global};
 use std::borrow::CowSlice;
 use std::marker::Model;
-use vx_list::Seq;
 
 /// A name as a key: where it stands in the draft, or owned.
 pub(crate) type Key<'a> = CowSlice<'a, u8>;
@@ -43,15 +42,14 @@ pub(crate) fn with_sigil(alloc: Global, sigil: u8, name: &[u8]) -> Result<Bytes,
     let mut whole = Vec::with_capacity(alloc, 1)?;
     whole.push(sigil)?;
     whole.extend_from_slice(name)?;
-    Ok(Seq::from_vec(whole))
+    Bytes::from_vec(alloc, whole)
 }
 
 /// A copy of a name or of another text, made in one piece.
 pub(crate) fn copied(alloc: Global, text: &[u8]) -> Result<Bytes, AllocError>
     ensures { IfOk result (λ copy. copy ≡ text.now) }
 {
-    let copy = Vec::from_slice(alloc, text)?;
-    Ok(Seq::from_vec(copy))
+    Bytes::from_slice(alloc, text)
 }
 
 impl<'a, T: Drop> Scope<'a, T> {

@@ -66,8 +66,9 @@ fn op_fits(alloc: Global, known: &Context, here: u32, stmt: &Stmt) -> Result<boo
                 blocks.as_slice(),
             )
         }
-        Op::Call { callee, .. } => {
-            Ok(calls(known.tops, callee.as_slice(), stmt.ty, stmt.args.as_slice()))
+        Op::Call(site) => {
+            let callee = site.get().callee.as_slice();
+            Ok(calls(known.tops, callee, stmt.ty, stmt.args.as_slice()))
         }
         op => {
             let targets = targets(alloc, known.locals, &stmt.labels, op)?;

@@ -38,7 +38,7 @@ by_op ret ns gs shown id name ty (ops.Br to) os fits = jump_line ns gs shown ret
 by_op ret ns gs shown id name ty (ops.CondBr first second) os fits = branch_line ns gs shown ret id name ty first second os fits
 by_op ret ns gs shown id name ty (ops.Switch other cases to) os fits = switch_line ns gs shown ret id name ty other cases to os fits
 by_op ret ns gs shown id name ty ops.Unreachable os fits = unreachable_line ns gs shown ret id name ty os fits
-by_op ret ns gs shown id name ty (ops.Call tail pre callee attrs post) os fits = clash true fits.other refl
+by_op ret ns gs shown id name ty (ops.Call site) os fits = clash true fits.other refl
 
 pub inst_printed : (ret : Ty) (ns : Names) (gs : List (List ℕ)) (i : Inst) → Shown ns gs → Fits ret ns gs i → Printed (inst_text ns gs i) (forms_of ns gs i)
 inst_printed ret ns gs i shown fits = by_op ret ns gs shown i.id i.name i.ty i.op i.opds fits

@@ -28,7 +28,7 @@ use Rattle.rf_text.proofs.NamedPlaces.{slice_get-append, push_length}
 abbrev pub HasShape : Op → List Opd → Type 0
 HasShape (Phi blocks) os = length blocks ≡ length os
 HasShape (Switch other cases to) os = length cases ≡ length to
-HasShape (Call tail pre callee attrs post) os = ⊥
+HasShape (Call site) os = ⊥
 HasShape op os = Unit {0}
 
 -- the blocks behind the first line
@@ -104,7 +104,7 @@ module _ (tops : Scope TopMeaning) (scope : Scope LocalMeaning) (base : ℕ) (ns
   pub linked_again : (n : ℕ) (op : Op) (os : List Opd) (s : Stmt) → s.args ≡ map (arg_of ns gs) os → s.labels ≡ map (shown_block ns) (line_blocks op) → All IsFoundOpd os → All IsFoundBlock (line_blocks op) → HasShape op os →
       linked_by tops scope base n s (op_of op) ≡ Ok (record { opds = os; blocks = line_blocks op })
   linked_again n (Phi blocks) os s args labels opds found shape = rw (args, labels) (pairs_again n (record { opds = []; blocks = [] }) os blocks shape opds found)
-  linked_again n (Call tail pre callee attrs post) os s args labels opds found shape = absurd shape
+  linked_again n (Call site) os s args labels opds found shape = absurd shape
   linked_again n op os s args labels opds found shape = in_order_again n s os (line_blocks op) args labels opds found
 
   -- ---- cases

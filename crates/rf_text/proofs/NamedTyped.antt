@@ -81,7 +81,7 @@ operands_real ret (Br to) t tys h c = none_real tys h.1
 operands_real ret (CondBr first second) t tys h c = one_real tys (Some (Int 1)) h.1 refl
 operands_real ret (Switch other cases to) t tys h c = one_real tys (Some (Int h.0)) h.6 refl
 operands_real ret Unreachable t tys h c = none_real tys h.1
-operands_real ret (Call tail pre callee attrs post) t tys h c = cc
+operands_real ret (Call site) t tys h c = cc
 
 -- what holds of what a list is mapped to
 pub All-unmap : {X Y : Type 0} (P : Y → Type 0) (f : X → Y) (xs : List X) → All P (map f xs) → All (λ x. P (f x)) xs
@@ -93,7 +93,7 @@ All-unmap P f (x ∷ xs) all = All-cons (λ x. P (f x)) x xs (All-head P (f x) (
 shape_of : (ret : Ty) (op : Op) (t : Ty) (tys : List (Option Ty)) (os : List Opd) → IsTyped ret op t tys → length tys ≡ length os → is_call op ≡ false → HasShape op os
 shape_of ret (Phi blocks) t tys os h many c = h.1 ∙ many
 shape_of ret (Switch other cases to) t tys os h many c = h.3
-shape_of ret (Call tail pre callee attrs post) t tys os h many c = cc
+shape_of ret (Call site) t tys os h many c = cc
 shape_of ret op t tys os h many c = tt
 
 pub has_shape : (ret : Ty) (op : Op) (t : Ty) (ty : Opd → Option Ty) (os : List Opd) → IsTyped ret op t (map ty os) → is_call op ≡ false → HasShape op os

@@ -45,7 +45,7 @@ label_stands line n insts blocks name plain small = rw (name_taken line n name p
 same_foreign : (n insts : ℕ) (op : Op) → is_foreign (place n insts 0 no_block) op ≡ is_foreign (place (n + 1) insts 1 front) op
 unfolding opened
 same_foreign n insts (Alloca elem align) = refl
-same_foreign n insts (Call tail pre callee attrs post) = refl
+same_foreign n insts (Call site) = refl
 same_foreign n insts op = refl
 
 module _ (names : List (List ℕ)) (ns : Names) (gs : List (List ℕ)) where

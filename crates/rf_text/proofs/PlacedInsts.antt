@@ -99,7 +99,7 @@ opened_in false next insts blocks = refl
 
 no_foreign : (before : Bool) (next insts number : ℕ) (op : Op) → is_call op ≡ false → (is_alloca op ≡ true → number ≡ 0) → is_foreign (place next insts (number + 1) (opening before)) (op_of op) ≡ false
 no_foreign before next insts number (Alloca elem align) other first = let none : number ≡ 0 = first refl in rw (opened_in before next insts (number + 1), none) refl
-no_foreign before next insts number (Call tail pre callee attrs post) other first = cc
+no_foreign before next insts number (Call site) other first = cc
 no_foreign before next insts number op other first = refl
 
 none_barred : (names : List (List ℕ)) (ns : Names) (gs : List (List ℕ)) (os : List Opd) → All (IsFree names gs) os → any_barred names (map (arg_of ns gs) os) ≡ false
@@ -125,7 +125,7 @@ more_stand : (names : List (List ℕ)) (ns : Names) (os : List Opd) (op : Op) (b
     body_lines names line (place next insts blocks (spot_after (op_of op))) (more_forms ns os op) ≡ Ok (place next insts blocks (opening_behind (is_terminator op) (before && is_phi op)))
 more_stand names ns os (Switch other cases to) before call phis line next insts blocks = cases_stand names ns (first_ty ns os) cases to line next insts blocks
 more_stand names ns os (Phi bs) before call phis line next insts blocks = rw (phis refl) refl
-more_stand names ns os (Call tail pre callee attrs post) before call phis line next insts blocks = cc
+more_stand names ns os (Call site) before call phis line next insts blocks = cc
 more_stand names ns os op true call phis line next insts blocks = refl
 more_stand names ns os op false call phis line next insts blocks = refl
 

@@ -190,7 +190,7 @@ result_real (ops.Gep elem inbounds) t tys c r h = ap is_void h.3
 result_real (ops.Load align) t tys c r h = stored_real t h.0
 result_real (ops.Alloca elem align) t tys c r h = ap is_void h.2
 result_real (ops.Phi blocks) t tys c r h = value_real t h.0
-result_real (ops.Call tail pre callee attrs post) t tys c r h = absurd (c tt)
+result_real (ops.Call site) t tys c r h = absurd (c tt)
 result_real (ops.Store align) t tys c r h = cc
 result_real ops.Ret t tys c r h = cc
 result_real (ops.Br to) t tys c r h = cc
@@ -213,7 +213,7 @@ silent_result s sound plain uncalled e = here (has_result s.op) refl where
       no (sym (ap (λ b. not b && not (is_store s.op)) void ∙ ap not store) ∙ e)
 
 pub uncalled_op : (op : Op) → (IsCallOp op → ⊥) → is_call op ≡ false
-uncalled_op (ops.Call tail pre callee attrs post) h = absurd (h tt)
+uncalled_op (ops.Call site) h = absurd (h tt)
 uncalled_op _ h = refl
 
 -- ---- lines

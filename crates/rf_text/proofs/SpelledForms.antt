@@ -30,7 +30,7 @@ HasLabels (ops.Br to) labels = (to ≡ 0) × ((l : List ℕ) × (labels ≡ l �
 HasLabels (ops.CondBr first second) labels = (first ≡ 0) × (second ≡ 1) × ((l : List ℕ) × (k : List ℕ) × (labels ≡ l ∷ k ∷ []))
 HasLabels (ops.Switch other cases to) labels = (other ≡ 0) × (cases ≡ []) × (to ≡ []) × ((l : List ℕ) × (labels ≡ l ∷ []))
 HasLabels (ops.Phi places) labels = Unit {0}
-HasLabels (ops.Call tail pre callee attrs post) labels = Unit {0}
+HasLabels (ops.Call site) labels = Unit {0}
 HasLabels _ labels = labels ≡ []
 
 record IsGiven (s : Stmt) : Type 0 where

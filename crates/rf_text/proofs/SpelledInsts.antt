@@ -186,7 +186,7 @@ module _ (gs : List (List ℕ)) (tops : Scope TopMeaning) (known : AreKnown tops
   labels_are labels args blocks cases (ops.Switch other values to) u z h p q =
       ap (λ x. x ∷ []) (at_place labels blocks other h.3.0 z p (ap (slice_get labels) h.0 ∙ ap (λ ls. slice_get ls 0) h.3.1)) ∙ sym h.3.1
   labels_are labels args blocks cases (ops.Phi places) u z h p q = phi_labels 0 places labels args [] blocks q z refl
-  labels_are labels args blocks cases (ops.Call tail pre callee attrs post) u z h p q = absurd (u tt)
+  labels_are labels args blocks cases (ops.Call site) u z h p q = absurd (u tt)
   labels_are labels args blocks cases _ u z h p q = sym h
 
   -- ---- operations

@@ -171,7 +171,7 @@ both_true true b e = refl
 both_true false b e = clash (sym e)
 
 no_call : (p : Place) (op : Op) → is_foreign p op ≡ false → IsCallOp op → ⊥
-no_call p (ops.Call tail pre callee attrs post) e c = clash e
+no_call p (ops.Call site) e c = clash e
 no_call p _ e c = c
 
 -- ---- where lines stand

@@ -84,7 +84,7 @@ module _ (names : List (List ℕ)) (ns : Names) (gs : List (List ℕ)) where
   same_foreign : (n insts at : ℕ) (op : Op) → is_foreign (place n insts at no_block) op ≡ is_foreign (place (n + 1) insts (at + 1) front) op
   unfolding opened
   same_foreign n insts at (Alloca elem align) = refl
-  same_foreign n insts at (Call tail pre callee attrs post) = refl
+  same_foreign n insts at (Call site) = refl
   same_foreign n insts at op = refl
 
   unnamed_opens : (ln n insts at : ℕ) (i : Inst) → body_line names ln (place n insts at no_block) (line.Stmt (stmt_of ns gs i)) ≡ body_line names ln (place (n + 1) insts (at + 1) front) (line.Stmt (stmt_of ns gs i))

@@ -74,4 +74,4 @@ typed_solid ret (Br to) t us other (is, e) = solid_is e tt
 typed_solid ret (CondBr first second) t us other (is, e) = solid_is e (refl, tt)
 typed_solid ret (Switch fallback cases to) t us other (w, i, is, same, all, once, e) = solid_is e (refl, tt)
 typed_solid ret Unreachable t us other (is, e) = solid_is e tt
-typed_solid ret (Call tail pre callee attrs post) t us other h = clash true other refl
+typed_solid ret (Call site) t us other h = clash true other refl

@@ -45,7 +45,7 @@ IsPoisonIfPointer (Lit literal) = literal.ty ≡ Ptr → literal.lanes ≡ None 
 IsPoisonIfPointer o = Unit {0}
 
 abbrev pub is_call : Op → Bool
-is_call (Call tail pre callee attrs post) = true
+is_call (Call site) = true
 is_call op = false
 
 -- an instruction, other than a call, of a function that returns `ret`: its literals are of their types, its operands as they are shown

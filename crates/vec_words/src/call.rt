@@ -44,7 +44,7 @@ pub(crate) struct Call {
 pub(crate) fn copied(alloc: Global, bytes: &[u8]) -> Result<Bytes, AllocError>
     ensures { IfOk result (λ x. x ≡ bytes.now) }
 {
-    Ok(Bytes::from_vec(Vec::from_slice(alloc, bytes)?))
+    Bytes::from_slice(alloc, bytes)
 }
 
 /// A copy of a plain name.

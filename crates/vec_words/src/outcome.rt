@@ -164,7 +164,7 @@ fn push_value(out: &mut Vec<u8>, ret: Ty, value: &Value) -> Result<(), AllocErro
 {
     match value {
         Value::Lane(lane) => push_lane(out, bits_of(ret), *lane),
-        Value::Row(lanes) => push_row(out, bits_of(ret), lanes.as_slice()),
+        Value::Row(lanes) => push_row(out, bits_of(ret), lanes.as_lanes().as_slice()),
         Value::Ptr(pointer) => push_pointer(out, *pointer),
     }
 }

@@ -34,7 +34,7 @@ fn strings(alloc: Global, words: &[&str]) -> Result<Vec<String>, AllocError> {
 fn names(alloc: Global, words: &[&str]) -> Result<Names, AllocError> {
     let mut all = Names::new(alloc);
     for word in words {
-        all.push(Bytes::from_vec(Vec::from_slice(alloc, word.as_bytes())?))?;
+        all.push(Bytes::from_slice(alloc, word.as_bytes())?)?;
     }
     Ok(all)
 }
@@ -99,7 +99,7 @@ fn function(alloc: Global, name: &str, types: &[Ty]) -> Result<Item, AllocError>
     Ok(Item::Func(Func {
         before: Bytes::new(alloc),
         ret: Ty::Void,
-        name: Bytes::from_vec(Vec::from_slice(alloc, name.as_bytes())?),
+        name: Bytes::from_slice(alloc, name.as_bytes())?,
         params,
         after: Bytes::new(alloc),
         blocks,

@@ -37,3 +37,14 @@ fn numbers_outgrow_their_places(rt: HostRuntime) -> Result<(), Fail> {
     assert_eq!(rt; numbers.as_slice(), [1, 2, 3, 4].as_slice());
     Ok(())
 }
+
+#[test]
+fn a_text_outgrows_its_places(rt: HostRuntime) -> Result<(), Fail> {
+    let mut text = Text::from_slice(rt.alloc(), b"a text of twenty-two b")?;
+    assert_eq!(rt; text.len(), 22);
+    text.push(b'.')?;
+    let copy = text.try_clone(rt.alloc())?;
+    assert!(rt; copy.equal(&text));
+    assert_eq!(rt; copy.as_slice(), b"a text of twenty-two b.".as_slice());
+    Ok(())
+}

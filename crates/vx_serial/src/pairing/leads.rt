@@ -58,7 +58,7 @@ impl Known {
         match (&inst.op, inst.opds.as_slice()) {
             (Op::Store { .. }, _) => Ok(()),
             (Op::Gep { .. }, [Opd::Val(pointer), Opd::Lit(literal)]) => {
-                let lead = lead_on(self.lead_of(*pointer), literal.lanes.as_slice());
+                let lead = lead_on(self.lead_of(*pointer), literal.lanes.as_lanes().as_slice());
                 self.set(inst.id, lead)
             }
             _ => self.set(inst.id, None),

@@ -133,7 +133,7 @@ fn led_store_of(known: &Known, inst: &Inst) -> Option<LedStore>
         (Op::Store { align }, Ty::Int(_), [Opd::Lit(literal), Opd::Val(pointer)]) => {
             led_store(
                 *align,
-                literal.lanes.as_slice(),
+                literal.lanes.as_lanes().as_slice(),
                 *pointer,
                 known.lead_of(*pointer),
             )
