@@ -6,6 +6,7 @@ use Rattle.ir_types.specs.declared.ty.Ty.{Ty}
 use Rattle.ir_types.specs.declared.ty.Ty.TheVariants.{Void, Int, Ptr, Row}
 use Rattle.ir_types.specs.declared.ty.Elem.{Elem}
 use Rattle.ir_types.specs.declared.ty.Elem.TheVariants.{One, Array}
+use Rattle.ir_types.specs.declared.call_site.CallSite.{CallSite}
 use Rattle.ir_types.specs.declared.op.Op.{Op}
 use Rattle.ir_types.specs.declared.op.Op.TheVariants.{Bin, Icmp, Cast, Select, Extract, Insert, Shuffle, Gep, Load, Store, Alloca, Phi, Ret, Br, CondBr, Switch, Unreachable, Call}
 use Rattle.ir_types.specs.declared.func.Param.{Param}
@@ -96,12 +97,12 @@ module _ (m : Module) (calls : Calls) (keep : CallsKeepShapes m calls) (ret : Ty
   abbrev Acted : Op → Ty → List Ty → List Value → Type 0
   Acted op t types vs = BackRow (IsCause calls op t vs mem left) (given_ty op t) (length mem) (act calls op t types vs mem left)
 
-  call_acts : (tail pre callee : List ℕ) (attrs : List (List ℕ)) (post : List ℕ) (t : Ty) (types : List Ty) (vs : List Value) →
-      IsCalling m (Call tail pre callee attrs post) t (Somes types) → AllZip (HasShape (length mem)) types vs → (w : Went Back) → calls callee vs mem left ≡ w →
-      BackRow (calls callee vs mem left ≡ Lost) t (length mem) w
-  call_acts tail pre callee attrs post t types vs h z Lost e = e
-  call_acts tail pre callee attrs post t types vs h z (Halts n) e = tt
-  call_acts tail pre callee attrs post t types vs h z (On b) e =
+  call_acts : (site : CallSite) (t : Ty) (types : List Ty) (vs : List Value) →
+      IsCalling m (Call site) t (Somes types) → AllZip (HasShape (length mem)) types vs → (w : Went Back) → calls site.callee vs mem left ≡ w →
+      BackRow (calls site.callee vs mem left ≡ Lost) t (length mem) w
+  call_acts site t types vs h z Lost e = e
+  call_acts site t types vs h z (Halts n) e = tt
+  call_acts site t types vs h z (On b) e =
       let back = keep h.0 h.1 vs mem left b
       (param_shapes (length mem) h.0.params vs (subst (λ ts. AllZip (HasShape (length mem)) ts vs) (param_types h.0.params types h.4) z)) globals
       (ap (λ name. calls name vs mem left) h.2 ∙ e) in
@@ -168,7 +169,7 @@ module _ (m : Module) (calls : Calls) (keep : CallsKeepShapes m calls) (ret : Ty
       subst (λ u. Acted (Alloca elem align) u types vs) (sym h.2)
       (no_arg (λ us. Acted (Alloca elem align) Ptr types us) (length mem) vs (subst (λ ts. AllZip (HasShape (length mem)) ts vs) (same_types types [] h.3) z)
       (back_row ⊥ Ptr (length mem) left (effect_of (Alloca elem align) Ptr types [] mem) (alloca_row ⊥ elem mem)))
-  acts (Call tail pre callee attrs post) t types vs h c _ _ z = call_acts tail pre callee attrs post t types vs c z (calls callee vs mem left) refl
+  acts (Call site) t types vs h c _ _ z = call_acts site t types vs c z (calls site.callee vs mem left) refl
   acts (Phi blocks) t types vs h c a b z = absurd (true_false b)
   acts Ret t types vs h c a b z = absurd (true_false a)
   acts (Br to) t types vs h c a b z = absurd (true_false a)

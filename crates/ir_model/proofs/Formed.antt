@@ -84,7 +84,7 @@ typed_there m ret (Br to) t tys h c = subst (Every IsThere) (sym h.1) tt
 typed_there m ret (CondBr first second) t tys h c = subst (Every IsThere) (sym h.1) (tt, tt)
 typed_there m ret (Switch other cases to) t tys h c = subst (Every IsThere) (sym h.6) (tt, tt)
 typed_there m ret Unreachable t tys h c = subst (Every IsThere) (sym h.1) tt
-typed_there m ret (Call tail pre callee attrs post) t tys h c = subst (Every IsThere) (sym c.4) (there_params c.0.params)
+typed_there m ret (Call site) t tys h c = subst (Every IsThere) (sym c.4) (there_params c.0.params)
 
 pub opds_there : (m : Module) (f : Func) (number position : ℕ) (i : Inst) → IsFormedInst m f number position i → Every IsThere (map (opd_ty m f) i.opds)
 opds_there m f number position i h = typed_there m f.ret i.op i.ty (map (opd_ty m f) i.opds) h.typed h.calling

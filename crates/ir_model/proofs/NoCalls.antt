@@ -25,7 +25,7 @@ at s left = record { state = s; left = left }
 -- an instruction is its effect
 act_plain : (go : Runs) (op : Op) (t : Ty) (types : List Ty) (vs : List Value) (m : Memory) (n : ℕ) →
     act (no_calls go) op t types vs m n ≡ back_with n (effect_of op t types vs m)
-act_plain go (Call tail pre callee attrs post) t types vs m n = refl
+act_plain go (Call site) t types vs m n = refl
 act_plain go op t types vs m n = refl
 
 then_reached : (env : Env) (id : Id) (n : ℕ) (e : Option Effect) → then_go (back_with n e) (reached_with env id) ≡ reached_if n (free.after_effect env id e)

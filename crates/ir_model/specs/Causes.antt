@@ -62,7 +62,7 @@ IsCause calls (Store align) t (v ∷ p ∷ []) m left = IsBadAccess (size_of t) 
 IsCause calls Unreachable t vs m left = ⊤
 IsCause calls (CondBr first second) t (LaneValue None ∷ []) m left = ⊤
 IsCause calls (Switch other cases to) t (LaneValue None ∷ []) m left = ⊤
-IsCause calls (Call tail pre callee attrs post) t vs m left = calls callee vs m left ≡ Lost
+IsCause calls (Call site) t vs m left = calls site.callee vs m left ≡ Lost
 IsCause calls _ t vs m left = ⊥
 
 -- ---- runs

@@ -12,6 +12,7 @@ use Rattle.ir_types.specs.declared.ty.Ty.TheVariants.{Void, Int, Ptr}
 use Rattle.ir_types.specs.declared.ty.Elem.TheVariants.{One}
 use Rattle.ir_types.specs.declared.opd.Opd.{Opd}
 use Rattle.ir_types.specs.declared.opd.Opd.TheVariants.{Val, Lit}
+use Rattle.ir_types.specs.declared.call_site.CallSite.{CallSite}
 use Rattle.ir_types.specs.declared.op.Op.{Op}
 use Rattle.ir_types.specs.declared.op.Op.TheVariants.{Gep, Store, Ret, Call}
 use Rattle.ir_types.specs.declared.inst.Inst.{Inst}
@@ -122,7 +123,7 @@ five callee vs m (suc left) = On (record { result = Some (LaneValue (Some 5)); m
 
 -- %r = call i32 @f()
 abbrev call_f : Inst
-call_f = inst 1 (Some (codes "r")) (Int 32) (Call [] [] (codes "f") [] []) []
+call_f = inst 1 (Some (codes "r")) (Int 32) (Call (record { tail = []; pre = []; callee = (codes "f"); attrs = []; post = [] })) []
 
 abbrev nowhere : Env
 nowhere x = PtrValue None

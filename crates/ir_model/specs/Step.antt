@@ -80,7 +80,7 @@ Calls = List ℕ → List Value → Memory → ℕ → Went Back
 -- ---- the step
 
 abbrev pub callee_of : Op → Option (List ℕ)
-callee_of (Call tail pre callee attrs post) = Some callee
+callee_of (Call site) = Some site.callee
 callee_of _ = None
 
 -- an effect, which takes nothing of the bound
