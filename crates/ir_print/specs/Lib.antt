@@ -3,4 +3,5 @@ pub mod Literals
 pub mod Names
 pub mod Operands
 pub mod Instructions
+pub mod Shown
 pub mod Text

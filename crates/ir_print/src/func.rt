@@ -6,6 +6,7 @@ ghost use Rattle.std.specs.Prelude.{◌≡◌, ◌++◌, OnOk, codes, slice_get}
 ghost use Rattle.std.specs.Option.{option_copied};
 ghost use Rattle.ir_print.specs.Text as text;
 
+use crate::form::Shown;
 use crate::inst::push_insts;
 use crate::names::Names;
 use crate::number::push_ty;
@@ -72,8 +73,23 @@ fn push_header(out: &mut Vec<u8>, names: &Names, func: &Func) -> Result<(), Allo
     Ok(())
 }
 
-fn push_label_line(out: &mut Vec<u8>, name: Option<&Bytes>) -> Result<(), AllocError>
+/// The line of a label, if there is one.
+fn push_label_line(out: &mut Vec<u8>, name: Option<&Shown>) -> Result<(), AllocError>
     ensures { OnOk result (out.new.items ≡ out.old.items ++ text.label_line (option_copied name.entry)) }
+{
+    match name {
+        None => Ok(()),
+        Some(name) => {
+            name.push_to(out)?;
+            out.extend_from_slice(b":\n")?;
+            Ok(())
+        }
+    }
+}
+
+/// The line of the first block's label, if that is written.
+fn push_first_label(out: &mut Vec<u8>, name: &Option<Bytes>) -> Result<(), AllocError>
+    ensures { OnOk result (out.new.items ≡ out.old.items ++ text.label_line name.now) }
 {
     match name {
         None => Ok(()),
@@ -129,7 +145,7 @@ fn push_blocks(
     match blocks {
         [] => Ok(()),
         [first, rest @ ..] => {
-            push_label_line(out, first.name.as_ref())?;
+            push_first_label(out, &first.name)?;
             push_insts(out, names, globals, first.insts.as_slice())?;
             push_more_blocks(out, names, globals, rest)?;
             Ok(())

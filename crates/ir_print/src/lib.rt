@@ -5,6 +5,7 @@
 #![tactic(auto)]
 
 mod flow_ops;
+mod form;
 mod func;
 mod inst;
 mod memory_ops;

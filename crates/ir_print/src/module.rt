@@ -6,7 +6,7 @@ ghost use Rattle.std.specs.Prelude.{◌≡◌, ◌++◌, IfOk, OnOk, codes};
 ghost use Rattle.ir_print.specs.Text as text;
 
 use crate::func::push_func;
-use ir_types::{Bytes, Item, Module, OutOfMemory};
+use ir_types::{Bytes, Func, Item, Module, OutOfMemory};
 use std::alloc::{AllocError, Global};
 
 fn is_function(item: &Item) -> bool
@@ -90,11 +90,34 @@ fn push_items(
     }
 }
 
+/// A guess at the length of a text, for its first room: that of short names and numbers.
+fn room_for(items: &[Item]) -> usize {
+    let mut room = 0usize;
+    for item in items {
+        let more = match item {
+            Item::Kept(text) => text.len(),
+            Item::Opaque(text) => text.len(),
+            Item::Func(func) => room_of(func),
+        };
+        room = room.saturating_add(more).saturating_add(2);
+    }
+    room
+}
+
+/// The same of a function.
+fn room_of(func: &Func) -> usize {
+    let mut room = 64usize;
+    for block in func.blocks.as_slice() {
+        room = room.saturating_add(block.insts.len().saturating_mul(40).saturating_add(16));
+    }
+    room
+}
+
 /// The text of a module, in time near linear in its length. Lines end with a line feed; a module of no items has no text.
 pub fn print(alloc: Global, m: &Module) -> Result<Vec<u8>, OutOfMemory>
     ensures { IfOk result (λ written. written.items ≡ text.text_of m.now) }
 {
-    let mut out = Vec::new(alloc);
+    let mut out = Vec::with_capacity(alloc, room_for(m.items.as_slice()))?;
     push_items(alloc, &mut out, m.globals.as_slice(), m.items.as_slice())?;
     Ok(out)
 }

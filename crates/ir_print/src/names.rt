@@ -1,38 +1,38 @@
 //! The names of a function: what is shown of each value and of each block.
 //!
 //! `Names::of` gathers them once a function; a look-up by id is then one in a hash map. Want of memory is the only failure.
-//! The locals stand in order of the text, and the map has the place of each id's first.
+//! The locals stand in order of the text, and the map has the place of each id's last. Written names stay in the function, and
+//! numbers are written out only where they are shown.
 
 ghost use Rattle.std.specs.Prelude.{◌≡◌, ◌++◌, ◌∷◌, List, IfOk, OnOk, slice_get};
 ghost use Rattle.std.specs.Option.{option_copied};
 ghost use Rattle.ir_print.specs.Names as names;
 ghost use Rattle.ir_print.specs.Names.{Named};
 
-use crate::number::push_decimal;
+use crate::form::Shown;
 use ir_types::{Block, Bytes, Func, Id, Inst, Op, Param, Ty};
 use std::alloc::{AllocError, Global};
 use std::collections::HashMap;
 use std::marker::Model;
-use vx_list::TryClone;
 
 /// A value with what is shown of it.
 #[derive(Drop)]
-pub struct Local {
+pub struct Local<'a> {
     pub id: Id,
     pub ty: Ty,
     /// Its written name, or its number, without the `%`.
-    pub text: Bytes,
+    pub text: Shown<'a>,
 }
 
 /// The names of one function.
 #[derive(Drop)]
-pub struct Names {
-    locals: Vec<Local>,
-    labels: Vec<Bytes>,
+pub struct Names<'a> {
+    locals: Vec<Local<'a>>,
+    labels: Vec<Shown<'a>>,
     places: HashMap<Id, usize>,
 }
 
-impl Model for Names {
+impl<'a> Model for Names<'a> {
     ghost use Rattle.ir_print.specs.Names.{Names as Shown};
 
     ghost Value = { Shown };
@@ -46,23 +46,19 @@ impl Model for Names {
 
 /// The next number, and what is shown of all values and blocks so far.
 #[derive(Drop)]
-struct Numbering {
+struct Numbering<'a> {
     next: u64,
-    locals: Vec<Local>,
-    labels: Vec<Bytes>,
+    locals: Vec<Local<'a>>,
+    labels: Vec<Shown<'a>>,
 }
 
 /// What is shown where `n` is the next number.
-fn shown(alloc: Global, n: u64, name: &Option<Bytes>) -> Result<Bytes, AllocError>
-    ensures { IfOk result (λ text. text ≡ names.shown n name.now) }
+fn shown<'a>(n: u64, name: &'a Option<Bytes>) -> Shown<'a>
+    ensures { result ≡ names.shown n name.now }
 {
     match name {
-        Some(name) => name.try_clone(alloc),
-        None => {
-            let mut digits = Vec::new(alloc);
-            push_decimal(&mut digits, n)?;
-            Bytes::from_vec(alloc, digits)
-        }
+        Some(name) => Shown::written(name.as_slice()),
+        None => Shown::number(n),
     }
 }
 
@@ -76,14 +72,13 @@ fn counted(n: u64, name: &Option<Bytes>) -> Result<u64, AllocError>
     }
 }
 
-impl Numbering {
+impl<'a> Numbering<'a> {
     /// Adds a value.
     fn add_value(
         &mut self,
-        alloc: Global,
         id: Id,
         ty: Ty,
-        name: &Option<Bytes>,
+        name: &'a Option<Bytes>,
     ) -> Result<(), AllocError>
         ensures locals { OnOk result ((rest : List Named) →
             self.new.locals.items ++ names.locals_from self.new.next rest
@@ -92,7 +87,7 @@ impl Numbering {
             self.new.labels.items ++ names.labels_from self.new.next rest
             ≡ self.old.labels.items ++ names.labels_from self.old.next (names.Named.Value id ty name.now ∷ rest)) }
     {
-        let text = shown(alloc, self.next, name)?;
+        let text = shown(self.next, name);
         let next = counted(self.next, name)?;
         self.locals.push(Local { id, ty, text })?;
         self.next = next;
@@ -100,7 +95,7 @@ impl Numbering {
     }
 
     /// Adds a block.
-    fn add_label(&mut self, alloc: Global, name: &Option<Bytes>) -> Result<(), AllocError>
+    fn add_label(&mut self, name: &'a Option<Bytes>) -> Result<(), AllocError>
         ensures locals { OnOk result ((rest : List Named) →
             self.new.locals.items ++ names.locals_from self.new.next rest
             ≡ self.old.locals.items ++ names.locals_from self.old.next (names.Named.Label name.now ∷ rest)) }
@@ -108,7 +103,7 @@ impl Numbering {
             self.new.labels.items ++ names.labels_from self.new.next rest
             ≡ self.old.labels.items ++ names.labels_from self.old.next (names.Named.Label name.now ∷ rest)) }
     {
-        let text = shown(alloc, self.next, name)?;
+        let text = shown(self.next, name);
         let next = counted(self.next, name)?;
         self.labels.push(text)?;
         self.next = next;
@@ -116,7 +111,7 @@ impl Numbering {
     }
 
     /// Adds parameters.
-    fn add_params(&mut self, alloc: Global, params: &[Param]) -> Result<(), AllocError>
+    fn add_params(&mut self, params: &'a [Param]) -> Result<(), AllocError>
         ensures locals { OnOk result ((rest : List Named) →
             self.new.locals.items ++ names.locals_from self.new.next rest
             ≡ self.old.locals.items ++ names.locals_from self.old.next (names.params_named params.now rest)) }
@@ -125,13 +120,13 @@ impl Numbering {
             ≡ self.old.labels.items ++ names.labels_from self.old.next (names.params_named params.now rest)) }
     {
         for param in params {
-            self.add_value(alloc, param.id, param.ty, &param.name)?;
+            self.add_value(param.id, param.ty, &param.name)?;
         }
         Ok(())
     }
 
     /// Adds an instruction, which names something where it has a result.
-    fn add_inst(&mut self, alloc: Global, inst: &Inst) -> Result<(), AllocError>
+    fn add_inst(&mut self, inst: &'a Inst) -> Result<(), AllocError>
         ensures locals { OnOk result ((rest : List Named) →
             self.new.locals.items ++ names.locals_from self.new.next rest
             ≡ self.old.locals.items ++ names.locals_from self.old.next (names.result_named (names.is_void inst.now.ty) (names.is_store inst.now.op) inst.now rest)) }
@@ -142,12 +137,12 @@ impl Numbering {
         match (inst.ty, &inst.op) {
             (Ty::Void, _) => Ok(()),
             (_, Op::Store { .. }) => Ok(()),
-            _ => self.add_value(alloc, inst.id, inst.ty, &inst.name),
+            _ => self.add_value(inst.id, inst.ty, &inst.name),
         }
     }
 
     /// Adds the instructions of a block.
-    fn add_insts(&mut self, alloc: Global, insts: &[Inst]) -> Result<(), AllocError>
+    fn add_insts(&mut self, insts: &'a [Inst]) -> Result<(), AllocError>
         ensures locals { OnOk result ((rest : List Named) →
             self.new.locals.items ++ names.locals_from self.new.next rest
             ≡ self.old.locals.items ++ names.locals_from self.old.next (names.insts_named insts.now rest)) }
@@ -156,19 +151,19 @@ impl Numbering {
             ≡ self.old.labels.items ++ names.labels_from self.old.next (names.insts_named insts.now rest)) }
     {
         for inst in insts {
-            self.add_inst(alloc, inst)?;
+            self.add_inst(inst)?;
         }
         Ok(())
     }
 
     /// Adds blocks with their instructions, after which nothing follows.
-    fn add_blocks(&mut self, alloc: Global, blocks: &[Block]) -> Result<(), AllocError>
+    fn add_blocks(&mut self, blocks: &'a [Block]) -> Result<(), AllocError>
         ensures locals { OnOk result (self.new.locals.items ≡ self.old.locals.items ++ names.locals_from self.old.next (names.blocks_named blocks.now)) }
         ensures labels { OnOk result (self.new.labels.items ≡ self.old.labels.items ++ names.labels_from self.old.next (names.blocks_named blocks.now)) }
     {
         for block in blocks {
-            self.add_label(alloc, &block.name)?;
-            self.add_insts(alloc, block.insts.as_slice())?;
+            self.add_label(&block.name)?;
+            self.add_insts(block.insts.as_slice())?;
         }
         Ok(())
     }
@@ -185,9 +180,9 @@ fn places_of(alloc: Global, locals: &[Local]) -> Result<HashMap<Id, usize>, Allo
     Ok(places)
 }
 
-impl Names {
+impl<'a> Names<'a> {
     /// The names of a function.
-    pub(crate) fn of(alloc: Global, func: &Func) -> Result<Names, AllocError>
+    pub(crate) fn of(alloc: Global, func: &'a Func) -> Result<Names<'a>, AllocError>
         ensures { IfOk result (λ shown. shown ≡ names.names_of func.now) }
     {
         let mut numbering = Numbering {
@@ -195,8 +190,8 @@ impl Names {
             locals: Vec::new(alloc),
             labels: Vec::new(alloc),
         };
-        numbering.add_params(alloc, func.params.as_slice())?;
-        numbering.add_blocks(alloc, func.blocks.as_slice())?;
+        numbering.add_params(func.params.as_slice())?;
+        numbering.add_blocks(func.blocks.as_slice())?;
         let Numbering {
             next: _,
             locals,
@@ -211,7 +206,7 @@ impl Names {
     }
 
     /// The value of an id.
-    pub(crate) fn local(&self, id: Id) -> Option<&Local>
+    pub(crate) fn local(&self, id: Id) -> Option<&Local<'a>>
         ensures { option_copied result ≡ names.local_of id self.now.locals }
     {
         let at = self.places.get(&id).copied()?;
@@ -219,7 +214,7 @@ impl Names {
     }
 
     /// What is shown of a block.
-    pub(crate) fn label(&self, block: u32) -> Option<&Bytes>
+    pub(crate) fn label(&self, block: u32) -> Option<&Shown<'a>>
         ensures { option_copied result ≡ slice_get self.now.labels block }
     {
         self.labels.get(block as usize)

@@ -35,7 +35,7 @@ pub(crate) fn push_local(out: &mut Vec<u8>, names: &Names, id: Id) -> Result<(),
         None => Ok(()),
         Some(local) => {
             out.extend_from_slice(b"%")?;
-            out.extend_from_slice(local.text.as_slice())?;
+            local.text.push_to(out)?;
             Ok(())
         }
     }
@@ -160,7 +160,7 @@ pub(crate) fn push_block(out: &mut Vec<u8>, names: &Names, block: u32) -> Result
         None => Ok(()),
         Some(name) => {
             out.extend_from_slice(b"%")?;
-            out.extend_from_slice(name.as_slice())?;
+            name.push_to(out)?;
             Ok(())
         }
     }

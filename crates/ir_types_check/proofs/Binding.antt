@@ -41,3 +41,11 @@ both false b e = clash (sym e)
 pub not_true : (a : Bool) → not a ≡ true → a ≡ false
 not_true true h = sym h
 not_true false h = refl
+
+pub and_true : (b : Bool) → (b && true) ≡ b
+and_true true = refl
+and_true false = refl
+
+pub and_more : (a b c : Bool) → ((a && b) && c) ≡ (a && (b && c))
+and_more true b c = refl
+and_more false b c = refl

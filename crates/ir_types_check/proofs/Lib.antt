@@ -13,6 +13,7 @@ pub mod BodyScope
 pub mod BodyTypes
 pub mod Counts
 pub mod Handed
+pub mod Heads
 pub mod ItemsFormed
 pub mod Known
 pub mod NamesHold

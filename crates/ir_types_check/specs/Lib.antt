@@ -2,11 +2,11 @@
 pub mod Answers
 pub mod Blocks
 pub mod Examples
+pub mod InOrder
 pub mod Links
 pub mod Locals
 pub mod Named
 pub mod Outline
-pub mod OwnNames
 pub mod Resolved
 pub mod Scope
 pub mod Tops

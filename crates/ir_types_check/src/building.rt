@@ -1,25 +1,32 @@
 //! `Built`: the blocks of a function so far; `Done`: the items of a module so far.
 //!
-//! The entry point is `resolved_items`. It fails at the first name that is unknown, or for want of memory.
+//! The entry points add one item to `Done`. They fail at the first name that is unknown, or for want of memory, and then what was
+//! done so far is no more of use. The first line that is ill typed is kept aside.
 
-ghost use Rattle.std.specs.Prelude.{◌≡◌, ◌++◌, ◌∷◌, [], None, Ok, IfOk, OnOk, length};
-ghost use Rattle.ir_types.specs.declared.module.Item.TheVariants as item;
+ghost use Rattle.std.specs.Prelude.{◌≡◌, ◌++◌, ◌&&◌, None, Some, Ok, IfOk, OnOk, length};
+ghost use Rattle.std.specs.List.{list_all};
+ghost use Rattle.ir_line.specs.declared.line.Line.TheVariants.{Stmt as StmtLine};
 ghost use Rattle.ir_types_check.specs.Answers.{Gives};
 ghost use Rattle.ir_types_check.specs.Blocks as build;
+ghost use Rattle.ir_types_check.specs.InOrder.{told, first_told};
 ghost use Rattle.ir_types_check.specs.Locals.{locals_of};
-ghost use Rattle.ir_types_check.specs.OwnNames.{AreOwnNames};
+ghost use Rattle.ir_types_check.specs.Outline.{start};
 ghost use Rattle.ir_types_check.specs.Resolved as resolved;
+ghost use Rattle.ir_types_check.specs.Typed as typed;
 
 use crate::ResolveRefusal;
-use crate::links::{cases_of, link, op_of};
-use crate::locals::{Locals, Meaning};
-use crate::module_names::ModuleNames;
-use crate::outline::{count_of, is_terminator, one_more, written, written_name};
+use crate::context::Context;
+use crate::edges::sources_of;
+use crate::links::{Linked, op_with};
+use crate::locals::Locals;
+use crate::outline::{At, count_of, is_terminator, one_more, written, written_name};
 use crate::scope::{Scope, copied};
 use crate::tops::Top;
-use ir_line::{DraftItem, Head, Line, Numbered, Stmt};
+use crate::typed::judge;
+use ir_line::{Head, Line, Numbered, Stmt};
 use ir_types::{Block, Blocks, Bytes, Func, Id, Inst, Insts, Item, Items, Numbers, Param, Params};
 use std::alloc::{AllocError, Global};
+use std::mem;
 
 /// The blocks of a function so far.
 #[derive(Drop)]
@@ -47,23 +54,23 @@ fn id_of(k: u32) -> Id
     Id { region: 0, k }
 }
 
-/// The instruction that a statement is, where these lines follow it.
+/// The instruction that a statement is, where these lines follow it; whether its operands have their written types goes into `fits`.
 #[tactic(auto, unfolding(crate::specs::Blocks::inst_of))]
 fn inst_of(
     alloc: Global,
-    tops: &Scope<Top>,
-    locals: &Scope<Meaning>,
-    base: u32,
+    known: &Context,
     k: u32,
     line: u32,
     stmt: &Stmt,
     rest: &[Numbered],
+    fits: &mut bool,
 ) -> Result<Inst, ResolveRefusal>
-    ensures { Gives (λ inst. inst) result (build.inst_of tops.now locals.now base k line stmt.now rest.now) }
+    ensures inst { Gives (λ inst. inst) result (build.inst_of known.now.tops.now known.now.locals.now known.now.base k line stmt.now rest.now) }
+    ensures fits { OnOk result (fits.new ≡ (fits.old && list_all (typed.arg_fits known.now.locals.now) stmt.now.args)) }
 {
-    let linked = link(alloc, tops, locals, base, line, stmt)?;
-    let cases = cases_of(alloc, locals, &stmt.op, rest)?;
-    let op = op_of(alloc, &linked.blocks, cases, &stmt.op)?;
+    let mut linked = Linked::new(alloc);
+    linked.link(alloc, known, line, stmt, fits)?;
+    let op = op_with(alloc, known.locals, &linked.blocks, &stmt.op, rest)?;
     let name = written(alloc, &stmt.result)?;
     Ok(Inst {
         id: id_of(k),
@@ -74,159 +81,161 @@ fn inst_of(
     })
 }
 
-/// The blocks with the one that is open, if there is one.
-fn closed(mut blocks: Blocks, current: Option<Block>) -> Result<Blocks, AllocError>
-    ensures { IfOk result (λ all. all ≡ build.closed blocks current) }
+/// How many instructions stand at the front of these lines before the block ends.
+fn insts_ahead(lines: &[Numbered]) -> usize {
+    let mut count = 0usize;
+    for line in lines {
+        match &line.form {
+            Line::Label(_) => return count,
+            Line::Stmt(stmt) => {
+                count = count.saturating_add(1);
+                if is_terminator(&stmt.op) {
+                    return count;
+                }
+            }
+            _ => {}
+        }
+    }
+    count
+}
+
+/// Adds an instruction to the open block; to an unnamed one, with room for these lines, where there is none.
+fn push_inst(
+    alloc: Global,
+    current: &mut Option<Block>,
+    inst: Inst,
+    rest: &[Numbered],
+) -> Result<(), AllocError>
+    ensures { OnOk result (current.new ≡ Some (build.with_last (build.open_block current.old) inst)) }
 {
     if let Some(block) = current {
-        blocks.push(block)?;
+        block.insts.push(inst)?;
+        return Ok(());
     }
-    Ok(blocks)
-}
-
-/// The open block; an unnamed one where there is none.
-fn open_block(alloc: Global, current: Option<Block>) -> Block
-    ensures { result ≡ build.open_block current }
-{
-    match current {
-        Some(block) => block,
-        None => Block {
-            name: None,
-            insts: Insts::new(alloc),
-        },
-    }
-}
-
-/// A block with one more instruction.
-fn with_last(block: Block, inst: Inst) -> Result<Block, AllocError>
-    ensures { IfOk result (λ more. more ≡ build.with_last block inst) }
-{
-    let Block { name, mut insts } = block;
-    insts.push(inst)?;
-    Ok(Block { name, insts })
-}
-
-/// Behind an instruction, which closes its block or leaves it open.
-fn settled(
-    ends: bool,
-    mut blocks: Blocks,
-    block: Block,
-    lines: Numbers,
-) -> Result<Built, AllocError>
-    ensures { IfOk result (λ after. after ≡ build.settled ends blocks block lines) }
-{
-    if ends {
-        blocks.push(block)?;
-        Ok(Built {
-            blocks,
-            current: None,
-            lines,
-        })
+    let room = if is_terminator(&inst.op) {
+        1
     } else {
-        Ok(Built {
-            blocks,
-            current: Some(block),
-            lines,
-        })
-    }
+        insts_ahead(rest).saturating_add(1)
+    };
+    let mut insts = Insts::with_capacity(alloc, room)?;
+    insts.push(inst)?;
+    *current = Some(Block { name: None, insts });
+    Ok(())
 }
 
 impl Built {
-    /// With an instruction.
+    /// Adds an instruction, which closes its block or leaves it open.
     #[tactic(auto, unfolding(crate::specs::Blocks::with_inst))]
-    fn with_inst(self, alloc: Global, line: u32, inst: Inst) -> Result<Built, AllocError>
-        ensures { IfOk result (λ after. after ≡ build.with_inst line self inst) }
-    {
-        let Built {
-            blocks,
-            current,
-            mut lines,
-        } = self;
-        lines.push(line)?;
-        let ends = is_terminator(&inst.op);
-        let block = with_last(open_block(alloc, current), inst)?;
-        settled(ends, blocks, block, lines)
-    }
-
-    /// With a label, which opens a block.
-    #[tactic(auto, unfolding(crate::specs::Blocks::labelled))]
-    fn labelled(self, alloc: Global, name: &Bytes) -> Result<Built, AllocError>
-        ensures { IfOk result (λ after. after ≡ build.labelled self name.now) }
-    {
-        let Built {
-            blocks,
-            current,
-            lines,
-        } = self;
-        let blocks = closed(blocks, current)?;
-        let name = written_name(alloc, name)?;
-        Ok(Built {
-            blocks,
-            current: Some(Block {
-                name,
-                insts: Insts::new(alloc),
-            }),
-            lines,
-        })
-    }
-
-    /// With a statement.
-    #[tactic(auto, unfolding(crate::specs::Blocks::with_statement))]
-    fn with_statement(
-        self,
+    fn add_inst(
+        &mut self,
         alloc: Global,
-        tops: &Scope<Top>,
-        locals: &Scope<Meaning>,
-        base: u32,
+        line: u32,
+        inst: Inst,
+        rest: &[Numbered],
+    ) -> Result<(), AllocError>
+        ensures { OnOk result (self.new ≡ build.with_inst line self.old inst) }
+    {
+        self.lines.push(line)?;
+        let ends = is_terminator(&inst.op);
+        push_inst(alloc, &mut self.current, inst, rest)?;
+        if ends {
+            self.close()?;
+        }
+        Ok(())
+    }
+
+    /// Closes the open block, if there is one.
+    fn close(&mut self) -> Result<(), AllocError>
+        ensures { OnOk result (self.new ≡ record { blocks = build.closed self.old.blocks self.old.current; current = None; lines = self.old.lines }) }
+    {
+        if let Some(block) = self.current.take() {
+            self.blocks.push(block)?;
+        }
+        Ok(())
+    }
+
+    /// Adds a label, which opens a block.
+    #[tactic(auto, unfolding(crate::specs::Blocks::labelled))]
+    fn add_label(
+        &mut self,
+        alloc: Global,
+        name: &Bytes,
+        rest: &[Numbered],
+    ) -> Result<(), AllocError>
+        ensures { OnOk result (self.new ≡ build.labelled self.old name.now) }
+    {
+        self.close()?;
+        let name = written_name(alloc, name)?;
+        let insts = Insts::with_capacity(alloc, insts_ahead(rest))?;
+        self.current = Some(Block { name, insts });
+        Ok(())
+    }
+
+    /// Adds a statement, and keeps its line where that is the first that is ill typed.
+    #[tactic(auto, unfolding(crate::specs::Blocks::with_statement))]
+    fn add_statement(
+        &mut self,
+        alloc: Global,
+        known: &Context,
+        at: At,
         line: u32,
         stmt: &Stmt,
         rest: &[Numbered],
-    ) -> Result<Built, ResolveRefusal>
-        ensures { Gives (λ after. after) result (build.with_statement tops.now locals.now base line self stmt.now rest.now) }
+        ill: &mut Option<u32>,
+    ) -> Result<(), ResolveRefusal>
+        ensures built { Gives (λ _. self.new) result (build.with_statement known.now.tops.now known.now.locals.now known.now.base line self.old stmt.now rest.now) }
+        ensures typed { OnOk result (told ill.new ≡ first_told ill.old (typed.line_typed known.now.tops.now known.now.locals.now known.now.ret known.now.sources.now at line (StmtLine stmt.now) rest.now)) }
     {
         let k = count_of(self.lines.len())?;
-        let inst = inst_of(alloc, tops, locals, base, k, line, stmt, rest)?;
-        Ok(self.with_inst(alloc, line, inst)?)
+        let mut fits = true;
+        let inst = inst_of(alloc, known, k, line, stmt, rest, &mut fits)?;
+        self.add_inst(alloc, line, inst, rest)?;
+        judge(alloc, known, at, line, stmt, fits, rest, ill)?;
+        Ok(())
     }
 
-    /// With a line of the body, behind which these follow.
-    fn with_line(
-        self,
+    /// Adds a line of the body, after which these follow.
+    fn add_line(
+        &mut self,
         alloc: Global,
-        tops: &Scope<Top>,
-        locals: &Scope<Meaning>,
-        base: u32,
-        line: u32,
-        form: &Line,
+        known: &Context,
+        at: At,
+        first: &Numbered,
         rest: &[Numbered],
-    ) -> Result<Built, ResolveRefusal>
-        ensures { Gives (λ after. after) result (build.built_line tops.now locals.now base line self form.now rest.now) }
+        ill: &mut Option<u32>,
+    ) -> Result<(), ResolveRefusal>
+        ensures built { Gives (λ _. self.new) result (build.built_line known.now.tops.now known.now.locals.now known.now.base first.now.line self.old first.now.form rest.now) }
+        ensures typed { OnOk result (told ill.new ≡ first_told ill.old (typed.line_typed known.now.tops.now known.now.locals.now known.now.ret known.now.sources.now at first.now.line first.now.form rest.now)) }
     {
-        match form {
-            Line::Label(name) => Ok(self.labelled(alloc, name)?),
-            Line::Stmt(stmt) => { self.with_statement(alloc, tops, locals, base, line, stmt, rest) }
-            _ => Ok(self),
+        match &first.form {
+            Line::Label(name) => {
+                self.add_label(alloc, name, rest)?;
+                Ok(())
+            }
+            Line::Stmt(stmt) => self.add_statement(alloc, known, at, first.line, stmt, rest, ill),
+            _ => Ok(()),
         }
     }
 
-    /// With all lines of the body.
-    fn with_lines(
-        self,
+    /// Adds all lines of the body.
+    fn add_lines(
+        &mut self,
         alloc: Global,
-        tops: &Scope<Top>,
-        locals: &Scope<Meaning>,
-        base: u32,
+        known: &Context,
         body: &[Numbered],
-    ) -> Result<Built, ResolveRefusal>
-        ensures { Gives (λ after. after) result (build.built_lines tops.now locals.now base self body.now) }
+        ill: &mut Option<u32>,
+    ) -> Result<(), ResolveRefusal>
+        ensures built { Gives (λ _. self.new) result (build.built_lines known.now.tops.now known.now.locals.now known.now.base self.old body.now) }
+        ensures typed { OnOk result (told ill.new ≡ first_told ill.old (typed.lines_typed known.now.tops.now known.now.locals.now known.now.ret known.now.sources.now start body.now)) }
     {
-        let mut whole = self;
+        let mut at = At::start();
         let mut rest = body;
         'each: while let [first, after @ ..] = rest {
-            whole = whole.with_line(alloc, tops, locals, base, first.line, &first.form, after)?;
+            self.add_line(alloc, known, at, first, after, ill)?;
+            at = at.behind(&first.form)?;
             rest = after;
         }
-        Ok(whole)
+        Ok(())
     }
 }
 
@@ -247,7 +256,7 @@ fn param_of(alloc: Global, k: u32, param: &Param) -> Result<Param, AllocError>
 fn params_from(alloc: Global, base: u32, params: &[Param]) -> Result<Params, AllocError>
     ensures { IfOk result (λ copies. copies ≡ build.params_from base params.now) }
 {
-    let mut copies = Params::new(alloc);
+    let mut copies = Params::with_capacity(alloc, params.len())?;
     let mut k = base;
     let mut rest = params;
     'each: while let [param, after @ ..] = rest {
@@ -289,118 +298,71 @@ fn func_of(alloc: Global, base: u32, head: &Head, blocks: Blocks) -> Result<Func
     })
 }
 
-/// The blocks of a function, behind these lines of the module's ids.
+/// The blocks of a function, after these lines of the module's ids.
 #[tactic(auto, unfolding(crate::specs::Blocks::built_of))]
 fn built_of(
     alloc: Global,
-    tops: &Scope<Top>,
-    locals: &Scope<Meaning>,
-    base: u32,
+    known: &Context,
     line: u32,
     lines: Numbers,
     head: &Head,
     body: &[Numbered],
+    ill: &mut Option<u32>,
 ) -> Result<Built, ResolveRefusal>
-    requires { base ≡ length lines }
-    ensures { Gives (λ after. after) result (build.built_of tops.now locals.now line lines head.now body.now) }
+    requires { known.now.base ≡ length lines }
+    ensures built { Gives (λ after. after) result (build.built_of known.now.tops.now known.now.locals.now line lines head.now body.now) }
+    ensures typed { OnOk result (told ill.new ≡ first_told ill.old (typed.lines_typed known.now.tops.now known.now.locals.now known.now.ret known.now.sources.now start body.now)) }
 {
     let mut lines = lines;
     add_param_lines(&mut lines, line, head.params.as_slice())?;
-    let start = Built {
-        blocks: Blocks::new(alloc),
+    let mut built = Built {
+        blocks: Blocks::with_capacity(alloc, known.sources.len())?,
         current: None,
         lines,
     };
-    start.with_lines(alloc, tops, locals, base, body)
+    built.add_lines(alloc, known, body, ill)?;
+    Ok(built)
 }
 
 impl Done {
-    /// With an item that is kept as it is.
+    /// Adds an item that is kept as it is.
     #[tactic(auto, unfolding(crate::specs::Resolved::with_kept))]
-    fn with_kept(self, item: Item) -> Result<Done, AllocError>
-        ensures { IfOk result (λ after. after ≡ resolved.with_kept self item) }
+    pub(crate) fn add_kept(&mut self, item: Item) -> Result<(), AllocError>
+        ensures { OnOk result (self.new ≡ resolved.with_kept self.old item) }
     {
-        let Done { mut items, lines } = self;
-        items.push(item)?;
-        Ok(Done { items, lines })
+        self.items.push(item)
     }
 
-    /// With a kept line of this text.
-    fn with_line(self, alloc: Global, text: &Bytes) -> Result<Done, AllocError>
-        ensures { IfOk result (λ after. after ≡ resolved.with_kept self (item.Kept text.now)) }
-    {
-        let text = copied(alloc, text.as_slice())?;
-        self.with_kept(Item::Kept(text))
-    }
-
-    /// With an opaque function of this text.
-    fn with_opaque(self, alloc: Global, text: &Bytes) -> Result<Done, AllocError>
-        ensures { IfOk result (λ after. after ≡ resolved.with_kept self (item.Opaque text.now)) }
-    {
-        let text = copied(alloc, text.as_slice())?;
-        self.with_kept(Item::Opaque(text))
-    }
-
-    /// With a function, whose names these are.
-    #[tactic(auto, unfolding(crate::specs::Resolved::resolved_function, crate::specs::Resolved::with_built))]
-    fn with_function(
-        self,
+    /// Adds a function, whose names these are, and keeps the first line that is ill typed.
+    #[tactic(auto, unfolding(crate::specs::Resolved::resolved_function, crate::specs::Resolved::with_built, crate::specs::Typed::function_typed))]
+    pub(crate) fn add_function(
+        &mut self,
         alloc: Global,
-        tops: &Scope<Top>,
+        tops: &Scope<'static, Top>,
         own: &Locals,
         line: u32,
         head: &Head,
         body: &[Numbered],
-    ) -> Result<Done, ResolveRefusal>
+        ill: &mut Option<u32>,
+    ) -> Result<(), ResolveRefusal>
         requires { locals_of line head.now body.now ≡ Ok own.now }
-        ensures { Gives (λ after. after) result (resolved.resolved_function tops.now line self head.now body.now) }
+        ensures built { Gives (λ _. self.new) result (resolved.resolved_function tops.now line self.old head.now body.now) }
+        ensures typed { OnOk result (told ill.new ≡ first_told ill.old (typed.function_typed tops.now line head.now body.now)) }
     {
-        let Done { mut items, lines } = self;
-        let base = count_of(lines.len())?;
-        let built = built_of(alloc, tops, &own.scope, base, line, lines, head, body)?;
-        let blocks = closed(built.blocks, built.current)?;
-        let func = func_of(alloc, base, head, blocks)?;
-        items.push(Item::Func(func))?;
-        Ok(Done {
-            items,
-            lines: built.lines,
-        })
+        let sources = sources_of(alloc, own, body)?;
+        let lines = mem::replace(&mut self.lines, Numbers::new(alloc));
+        let known = Context {
+            tops,
+            locals: &own.scope,
+            sources: &sources,
+            ret: head.ret,
+            base: count_of(lines.len())?,
+        };
+        let mut built = built_of(alloc, &known, line, lines, head, body, ill)?;
+        built.close()?;
+        let func = func_of(alloc, known.base, head, built.blocks)?;
+        self.items.push(Item::Func(func))?;
+        self.lines = built.lines;
+        Ok(())
     }
-}
-
-/// The items of the module, whose names these are.
-pub(crate) fn resolved_items(
-    alloc: Global,
-    names: &ModuleNames,
-    items: &[DraftItem],
-) -> Result<Done, ResolveRefusal>
-    requires { AreOwnNames items.now names.now.own }
-    ensures { Gives (λ done. done) result (resolved.resolved_items names.now.tops.scope (record { items = []; lines = [] }) items.now) }
-{
-    let mut done = Done {
-        items: Items::new(alloc),
-        lines: Numbers::new(alloc),
-    };
-    let tops = &names.tops.scope;
-    let mut own = names.own.as_slice();
-    let mut rest = items;
-    'each: while let [item, after @ ..] = rest {
-        match item {
-            DraftItem::Kept { line: _, kept } => done = done.with_line(alloc, &kept.text)?,
-            DraftItem::Opaque {
-                line: _,
-                name: _,
-                text,
-            } => done = done.with_opaque(alloc, text)?,
-            DraftItem::Func { line, head, body } => {
-                let [first, more @ ..] = own else {
-                    unreachable!()
-                };
-                done = done.with_function(alloc, tops, first, *line, head, body.as_slice())?;
-                own = more;
-            }
-        }
-        rest = after;
-    }
-    Ok(done)
 }

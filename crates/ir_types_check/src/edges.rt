@@ -167,7 +167,7 @@ fn add_line(
 fn no_edges(alloc: Global, blocks: u32) -> Result<Sources, AllocError>
     ensures { IfOk result (λ sources. sources ≡ replicate blocks []) }
 {
-    let mut sources = Sources::new(alloc);
+    let mut sources = Sources::with_capacity(alloc, blocks as usize)?;
     for _block in 0..blocks {
         sources.push(Ends::new(alloc))?;
     }

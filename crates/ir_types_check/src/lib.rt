@@ -3,8 +3,9 @@
 //! The one entry point is `resolve`. It answers with the module, or refuses by the first line that defines a name twice, the first
 //! that uses an unknown one, or the first that is ill typed, in this order; or for want of memory.
 //!
-//! The draft is gone through three times: for what its names mean, for its items, and for their types. The first pass makes a map
-//! of each function's names and keeps it for the others, so that a look-up is one in a hash map and the time is near linear.
+//! The draft is gone through twice: its items for the names of the module, and then function by function, with a map of the
+//! function's names, for what its lines use and for their types. A name is one look-up in a hash map and the time is near linear.
+//! What is found before a cause that comes first is kept aside.
 #![tactic(auto)]
 
 ghost use Rattle.ir_types_check.specs.Answers.{Gives};
@@ -12,29 +13,30 @@ ghost use Rattle.ir_types_check.specs.Resolved.{resolved_of};
 
 mod building;
 mod cases;
+mod context;
 mod edges;
 mod laws;
 mod links;
 mod locals;
-mod module_names;
 mod outline;
 mod phis;
 mod refusal;
 mod resolved;
 mod scope;
+mod sweep;
 mod tops;
 mod typed;
 mod types;
 
-use building::resolved_items;
 use ir_line::Draft;
+use ir_types::Module;
 pub use laws::resolved_drafts_are_named;
-use module_names::module_names_of;
 pub use refusal::ResolveRefusal;
 pub use resolved::Resolved;
-use resolved::module_of;
+use resolved::big_endian_line;
 use std::alloc::Global;
-use typed::items_typed;
+use sweep::{Sweep, swept};
+use tops::names_of;
 
 /// The module that a draft is, with the line of each id.
 ///
@@ -45,15 +47,26 @@ use typed::items_typed;
 /// - `OutOfMemory`, at any time.
 ///
 /// LLVM Language Reference, "Identifiers", "Functions", "phi Instruction" and "call Instruction".
-#[tactic(auto, unfolding(crate::specs::Resolved::resolved_of, crate::specs::Resolved::resolved_with))]
-pub fn resolve(alloc: Global, draft: &Draft) -> Result<Resolved, ResolveRefusal>
-    ensures { Gives (λ whole. whole) result (resolved_of draft.now) }
+#[tactic(auto, unfolding(crate::specs::Resolved::resolved_of, crate::specs::Resolved::resolved_with, crate::specs::Resolved::module_of))]
+pub fn resolve(alloc: Global, draft: Draft) -> Result<Resolved, ResolveRefusal>
+    ensures { Gives (λ whole. whole) result (resolved_of draft) }
 {
-    let items = draft.items.as_slice();
-    let names = module_names_of(alloc, items)?;
-    let done = resolved_items(alloc, &names, items)?;
-    items_typed(alloc, &names, items)?;
-    Ok(module_of(names.tops, items, done))
+    let Draft { items } = draft;
+    let big_endian_line = big_endian_line(items.as_slice());
+    let tops = names_of(alloc, items.as_slice())?;
+    let Sweep { linked, ill } = swept(alloc, &tops.scope, items)?;
+    let done = linked?;
+    if let Some(line) = ill {
+        return Err(ResolveRefusal::IllTyped { line });
+    }
+    Ok(Resolved {
+        module: Module {
+            items: done.items,
+            globals: tops.globals,
+            big_endian_line,
+        },
+        lines: done.lines,
+    })
 }
 
 #[cfg(test)]

@@ -1,20 +1,26 @@
 //! `Linked` and `Cases`: what the names that a statement uses stand for.
 //!
-//! The entry points are `link`, for its own line, `cases_of`, for the cases behind it, and `op_of`, its operation with these. The
-//! first two fail at the first name that is unknown, all for want of memory.
+//! The entry points are `link`, for its own line, and `op_with`, its operation with the cases after it. They fail at the first name
+//! that is unknown, or for want of memory. As a name is looked up once, `link` tells too whether each operand has the type that is
+//! written for it.
 
-ghost use Rattle.std.specs.Prelude.{◌≡◌, ◌+◌, [], IfOk, map};
+ghost use Rattle.std.specs.Prelude.{◌≡◌, ◌+◌, ◌&&◌, [], IfOk, OnOk, map};
+ghost use Rattle.std.specs.List.{list_all};
 ghost use Rattle.ir_types_check.specs.Answers.{Gives};
+ghost use Rattle.ir_types_check.specs.InOrder as order;
 ghost use Rattle.ir_types_check.specs.Links as links;
 ghost use Rattle.ir_types_check.specs.Scope.{meaning};
+ghost use Rattle.ir_types_check.specs.Typed as typed;
 
 use crate::ResolveRefusal;
+use crate::context::Context;
 use crate::edges::Ends;
 use crate::locals::Meaning;
 use crate::scope::{Scope, with_sigil};
 use crate::tops::Top;
+use crate::types::{args_fit, same_ty};
 use ir_line::{Arg, Line, Numbered, Stmt, Written};
-use ir_types::{Bytes, Id, Literal, Lits, Numbers, Op, Opd, Opds};
+use ir_types::{Bytes, Id, Literal, Lits, Numbers, Op, Opd, Opds, Ty};
 use std::alloc::{AllocError, Global};
 use vx_list::TryClone;
 use vx_num::Lane;
@@ -40,19 +46,22 @@ fn in_module(base: u32, place: u32) -> Result<u32, AllocError>
     base.checked_add(place).ok_or(AllocError)
 }
 
-/// A value.
+/// A value; whether it has this type goes into `fits`.
 fn value_of(
     alloc: Global,
-    locals: &Scope<Meaning>,
-    base: u32,
+    known: &Context,
     line: u32,
     name: &[u8],
+    ty: Ty,
+    fits: &mut bool,
 ) -> Result<Opd, ResolveRefusal>
-    ensures { Gives (λ opd. opd) result (links.value_of base line name.now (meaning name.now locals.now)) }
+    ensures opd { Gives (λ opd. opd) result (links.value_of known.now.base line name.now (meaning name.now known.now.locals.now)) }
+    ensures fits { OnOk result (fits.new ≡ (fits.old && typed.is_value_of ty (meaning name.now known.now.locals.now))) }
 {
-    match locals.get(name) {
-        Some(Meaning::Value { place, ty: _ }) => {
-            let k = in_module(base, *place)?;
+    match known.locals.get(name) {
+        Some(Meaning::Value { place, ty: found }) => {
+            let k = in_module(known.base, *place)?;
+            *fits = *fits && same_ty(*found, ty);
             Ok(Opd::Val(Id { region: 0, k }))
         }
         _ => {
@@ -111,159 +120,172 @@ fn callee_of(alloc: Global, tops: &Scope<Top>, line: u32, name: &[u8]) -> Result
     }
 }
 
-/// The operand that is written.
+/// The operand that is written; whether it has its written type goes into `fits`.
+#[tactic(auto, using(crate::proofs::Binding::and_true))]
 fn opd_of(
     alloc: Global,
-    tops: &Scope<Top>,
-    locals: &Scope<Meaning>,
-    base: u32,
+    known: &Context,
     line: u32,
-    written: &Written,
+    arg: &Arg,
+    fits: &mut bool,
 ) -> Result<Opd, ResolveRefusal>
-    ensures { Gives (λ opd. opd) result (links.opd_of tops.now locals.now base line written.now) }
+    ensures opd { Gives (λ opd. opd) result (links.opd_of known.now.tops.now known.now.locals.now known.now.base line arg.now.opd) }
+    ensures fits { OnOk result (fits.new ≡ (fits.old && typed.arg_fits known.now.locals.now arg.now)) }
 {
-    match written {
-        Written::Local(name) => value_of(alloc, locals, base, line, name.as_slice()),
-        Written::Symbol(name) => global_of(alloc, tops, line, name.as_slice()),
+    match &arg.opd {
+        Written::Local(name) => value_of(alloc, known, line, name.as_slice(), arg.ty, fits),
+        Written::Symbol(name) => global_of(alloc, known.tops, line, name.as_slice()),
         Written::Lit(literal) => Ok(Opd::Lit(literal.try_clone(alloc)?)),
     }
 }
 
-/// The operands that are written.
-fn opds_of(
-    alloc: Global,
-    tops: &Scope<Top>,
-    locals: &Scope<Meaning>,
-    base: u32,
-    line: u32,
-    args: &[Arg],
-) -> Result<Opds, ResolveRefusal>
-    ensures { Gives (λ opds. opds) result (links.opds_onto tops.now locals.now base line [] args.now) }
-{
-    let mut opds = Opds::new(alloc);
-    let mut rest = args;
-    'each: while let [arg, after @ ..] = rest {
-        let opd = opd_of(alloc, tops, locals, base, line, &arg.opd)?;
-        opds.push(opd)?;
-        rest = after;
-    }
-    Ok(opds)
-}
-
-/// The blocks of some labels.
-fn blocks_of(
-    alloc: Global,
-    locals: &Scope<Meaning>,
-    line: u32,
-    labels: &[Bytes],
-) -> Result<Ends, ResolveRefusal>
-    ensures { Gives (λ blocks. blocks) result (links.blocks_onto locals.now line [] labels.now) }
-{
-    let mut blocks = Ends::new(alloc);
-    let mut rest = labels;
-    'each: while let [label, after @ ..] = rest {
-        let block = block_of(alloc, locals, line, label.as_slice())?;
-        blocks.push(block)?;
-        rest = after;
-    }
-    Ok(blocks)
-}
-
-/// The operands, then the labels.
-#[tactic(auto, unfolding(crate::specs::Links::in_order))]
-fn in_order(
-    alloc: Global,
-    tops: &Scope<Top>,
-    locals: &Scope<Meaning>,
-    base: u32,
-    line: u32,
-    stmt: &Stmt,
-) -> Result<Linked, ResolveRefusal>
-    ensures { Gives (λ whole. whole) result (links.in_order tops.now locals.now base line stmt.now) }
-{
-    let opds = opds_of(alloc, tops, locals, base, line, stmt.args.as_slice())?;
-    let blocks = blocks_of(alloc, locals, line, stmt.labels.as_slice())?;
-    Ok(Linked { opds, blocks })
-}
-
 impl Linked {
+    /// Nothing.
+    pub(crate) fn new(alloc: Global) -> Linked
+        ensures { result ≡ record { opds = []; blocks = [] } }
+    {
+        Linked {
+            opds: Opds::new(alloc),
+            blocks: Ends::new(alloc),
+        }
+    }
+
+    /// With the operands that are written; whether all have their written types goes into `fits`.
+    #[tactic(auto, using(crate::proofs::Binding::and_true, crate::proofs::Binding::and_more))]
+    fn add_opds(
+        &mut self,
+        alloc: Global,
+        known: &Context,
+        line: u32,
+        args: &[Arg],
+        fits: &mut bool,
+    ) -> Result<(), ResolveRefusal>
+        ensures opds { Gives (λ _. self.new.opds) result (links.opds_onto known.now.tops.now known.now.locals.now known.now.base line self.old.opds args.now) }
+        ensures blocks { OnOk result (self.new.blocks ≡ self.old.blocks) }
+        ensures fits { OnOk result (fits.new ≡ (fits.old && list_all (typed.arg_fits known.now.locals.now) args.now)) }
+    {
+        let mut rest = args;
+        'each: while let [arg, after @ ..] = rest {
+            self.opds.push(opd_of(alloc, known, line, arg, fits)?)?;
+            rest = after;
+        }
+        Ok(())
+    }
+
+    /// With the blocks of some labels.
+    fn add_blocks(
+        &mut self,
+        alloc: Global,
+        locals: &Scope<Meaning>,
+        line: u32,
+        labels: &[Bytes],
+    ) -> Result<(), ResolveRefusal>
+        ensures blocks { Gives (λ _. self.new.blocks) result (links.blocks_onto locals.now line self.old.blocks labels.now) }
+        ensures opds { OnOk result (self.new.opds ≡ self.old.opds) }
+    {
+        let mut rest = labels;
+        'each: while let [label, after @ ..] = rest {
+            let block = block_of(alloc, locals, line, label.as_slice())?;
+            self.blocks.push(block)?;
+            rest = after;
+        }
+        Ok(())
+    }
+
+    /// With the operands, then the labels.
+    #[tactic(auto, unfolding(crate::specs::Links::in_order))]
+    fn add_in_order(
+        &mut self,
+        alloc: Global,
+        known: &Context,
+        line: u32,
+        stmt: &Stmt,
+        fits: &mut bool,
+    ) -> Result<(), ResolveRefusal>
+        requires { self.old ≡ record { opds = []; blocks = [] } }
+        ensures linked { Gives (λ _. self.new) result (links.in_order known.now.tops.now known.now.locals.now known.now.base line stmt.now) }
+        ensures fits { OnOk result (fits.new ≡ (fits.old && list_all (typed.arg_fits known.now.locals.now) stmt.now.args)) }
+    {
+        self.add_opds(alloc, known, line, stmt.args.as_slice(), fits)?;
+        self.add_blocks(alloc, known.locals, line, stmt.labels.as_slice())?;
+        Ok(())
+    }
+
     /// With one operand and one label.
     #[tactic(auto, unfolding(crate::specs::Links::with_pair))]
     fn add_pair(
         &mut self,
         alloc: Global,
-        tops: &Scope<Top>,
-        locals: &Scope<Meaning>,
-        base: u32,
+        known: &Context,
         line: u32,
-        written: &Written,
+        arg: &Arg,
         label: &[u8],
     ) -> Result<(), ResolveRefusal>
-        ensures { Gives (λ _. self.new) result (links.with_pair tops.now locals.now base line self.old written.now label.now) }
+        ensures { Gives (λ _. self.new) result (links.with_pair known.now.tops.now known.now.locals.now known.now.base line self.old arg.now.opd label.now) }
     {
-        let opd = opd_of(alloc, tops, locals, base, line, written)?;
-        let block = block_of(alloc, locals, line, label)?;
+        let mut fits = true;
+        let opd = opd_of(alloc, known, line, arg, &mut fits)?;
+        let block = block_of(alloc, known.locals, line, label)?;
         self.opds.push(opd)?;
         self.blocks.push(block)?;
         Ok(())
     }
-}
 
-/// Operands and labels by turns, as many as there are of both.
-fn by_turns(
-    alloc: Global,
-    tops: &Scope<Top>,
-    locals: &Scope<Meaning>,
-    base: u32,
-    line: u32,
-    args: &[Arg],
-    labels: &[Bytes],
-) -> Result<Linked, ResolveRefusal>
-    ensures { Gives (λ whole. whole) result (links.pairs_onto tops.now locals.now base line (record { opds = []; blocks = [] }) args.now labels.now) }
-{
-    let mut whole = Linked {
-        opds: Opds::new(alloc),
-        blocks: Ends::new(alloc),
-    };
-    let mut args = args;
-    let mut labels = labels;
-    'each: while let [arg, more @ ..] = args {
-        let [label, others @ ..] = labels else {
-            return Ok(whole);
-        };
-        whole.add_pair(alloc, tops, locals, base, line, &arg.opd, label.as_slice())?;
-        args = more;
-        labels = others;
-    }
-    Ok(whole)
-}
-
-/// What the names of a statement stand for.
-pub(crate) fn link(
-    alloc: Global,
-    tops: &Scope<Top>,
-    locals: &Scope<Meaning>,
-    base: u32,
-    line: u32,
-    stmt: &Stmt,
-) -> Result<Linked, ResolveRefusal>
-    ensures { Gives (λ whole. whole) result (links.linked tops.now locals.now base line stmt.now) }
-{
-    match &stmt.op {
-        Op::Phi { .. } => by_turns(
-            alloc,
-            tops,
-            locals,
-            base,
-            line,
-            stmt.args.as_slice(),
-            stmt.labels.as_slice(),
-        ),
-        Op::Call(site) => {
-            callee_of(alloc, tops, line, site.get().callee.as_slice())?;
-            in_order(alloc, tops, locals, base, line, stmt)
+    /// With operands and labels by turns, as many as there are of both.
+    #[inline(never)]
+    fn add_pairs(
+        &mut self,
+        alloc: Global,
+        known: &Context,
+        line: u32,
+        args: &[Arg],
+        labels: &[Bytes],
+    ) -> Result<(), ResolveRefusal>
+        ensures { Gives (λ _. self.new) result (links.pairs_onto known.now.tops.now known.now.locals.now known.now.base line self.old args.now labels.now) }
+    {
+        let mut args = args;
+        let mut labels = labels;
+        'each: while let [arg, more @ ..] = args {
+            let [label, others @ ..] = labels else {
+                return Ok(());
+            };
+            self.add_pair(alloc, known, line, arg, label.as_slice())?;
+            args = more;
+            labels = others;
         }
-        _ => in_order(alloc, tops, locals, base, line, stmt),
+        Ok(())
+    }
+
+    /// With what the names of a statement stand for; whether all operands have their written types goes into `fits`.
+    pub(crate) fn link(
+        &mut self,
+        alloc: Global,
+        known: &Context,
+        line: u32,
+        stmt: &Stmt,
+        fits: &mut bool,
+    ) -> Result<(), ResolveRefusal>
+        requires { self.old ≡ record { opds = []; blocks = [] } }
+        ensures linked { Gives (λ _. self.new) result (links.linked known.now.tops.now known.now.locals.now known.now.base line stmt.now) }
+        ensures fits { OnOk result (fits.new ≡ (fits.old && list_all (typed.arg_fits known.now.locals.now) stmt.now.args)) }
+    {
+        match &stmt.op {
+            Op::Phi { .. } => {
+                *fits = *fits && args_fit(known.locals, stmt.args.as_slice());
+                self.add_pairs(
+                    alloc,
+                    known,
+                    line,
+                    stmt.args.as_slice(),
+                    stmt.labels.as_slice(),
+                )
+            }
+            Op::Call(site) => {
+                callee_of(alloc, known.tops, line, site.get().callee.as_slice())?;
+                self.add_in_order(alloc, known, line, stmt, fits)
+            }
+            _ => self.add_in_order(alloc, known, line, stmt, fits),
+        }
     }
 }
 
@@ -308,6 +330,7 @@ impl Cases {
 }
 
 /// The cases at the front of these lines.
+#[inline(never)]
 fn front_cases(
     alloc: Global,
     locals: &Scope<Meaning>,
@@ -325,21 +348,6 @@ fn front_cases(
         rest = after;
     }
     Ok(cases)
-}
-
-/// The cases of an operation, where these lines follow it.
-pub(crate) fn cases_of(
-    alloc: Global,
-    locals: &Scope<Meaning>,
-    op: &Op,
-    rest: &[Numbered],
-) -> Result<Cases, ResolveRefusal>
-    ensures { Gives (λ cases. cases) result (links.cases_of locals.now op.now rest.now) }
-{
-    match op {
-        Op::Switch { .. } => front_cases(alloc, locals, rest),
-        _ => Ok(Cases::new(alloc)),
-    }
 }
 
 /// The block at a place among the labels.
@@ -363,9 +371,15 @@ fn blocks_at(alloc: Global, blocks: &Ends, places: &[u32]) -> Result<Numbers, Al
     Ok(found)
 }
 
-/// The operation with blocks in place of the places of labels, and with its cases.
-pub(crate) fn op_of(alloc: Global, blocks: &Ends, cases: Cases, op: &Op) -> Result<Op, AllocError>
-    ensures { IfOk result (λ whole. whole ≡ links.op_of blocks.now cases op.now) }
+/// The operation with blocks in place of the places of labels, and with its cases, where these lines follow it.
+pub(crate) fn op_with(
+    alloc: Global,
+    locals: &Scope<Meaning>,
+    blocks: &Ends,
+    op: &Op,
+    rest: &[Numbered],
+) -> Result<Op, ResolveRefusal>
+    ensures { Gives (λ whole. whole) result (order.op_with locals.now blocks.now op.now rest.now) }
 {
     match op {
         Op::Phi { blocks: places } => Ok(Op::Phi {
@@ -378,11 +392,14 @@ pub(crate) fn op_of(alloc: Global, blocks: &Ends, cases: Cases, op: &Op) -> Resu
             yes: block_at(blocks, *yes),
             no: block_at(blocks, *no),
         }),
-        Op::Switch { other, .. } => Ok(Op::Switch {
-            other: block_at(blocks, *other),
-            cases: cases.values,
-            to: cases.to,
-        }),
-        _ => op.try_clone(alloc),
+        Op::Switch { other, .. } => {
+            let Cases { values, to } = front_cases(alloc, locals, rest)?;
+            Ok(Op::Switch {
+                other: block_at(blocks, *other),
+                cases: values,
+                to,
+            })
+        }
+        _ => Ok(op.try_clone(alloc)?),
     }
 }

@@ -3,14 +3,16 @@
 //! The entry point is `locals_of`. It fails at the first name that is defined twice, or for want of memory.
 
 ghost use Rattle.std.specs.Prelude.{◌≡◌, []};
+ghost use Rattle.std.specs.Fmt.{decimal};
 ghost use Rattle.ir_types_check.specs.Answers.{Gives};
 ghost use Rattle.ir_types_check.specs.Locals as locals;
 
 use crate::ResolveRefusal;
-use crate::outline::{At, decimal_name};
+use crate::outline::At;
 use crate::scope::Scope;
 use ir_line::{Head, Line, Numbered, Stmt};
 use ir_types::{Param, Ty};
+use itoa::Buffer;
 use std::alloc::Global;
 
 /// What a local name means.
@@ -24,19 +26,19 @@ pub(crate) enum Meaning {
 
 /// The local names so far, and where the next line stands.
 #[derive(Drop)]
-pub(crate) struct Locals {
-    pub(crate) scope: Scope<Meaning>,
+pub(crate) struct Locals<'a> {
+    pub(crate) scope: Scope<'a, Meaning>,
     pub(crate) at: At,
 }
 
-impl Locals {
+impl<'a> Locals<'a> {
     /// With a name that a line defines.
     #[tactic(auto, unfolding(crate::specs::Locals::with_name))]
     fn add(
         &mut self,
         alloc: Global,
         line: u32,
-        name: &[u8],
+        name: &'a [u8],
         meaning: Meaning,
         at: At,
     ) -> Result<(), ResolveRefusal>
@@ -47,9 +49,32 @@ impl Locals {
         Ok(())
     }
 
+    /// With the next number as the name of what has none.
+    #[tactic(auto, unfolding(crate::specs::Locals::with_name))]
+    fn add_number(
+        &mut self,
+        alloc: Global,
+        line: u32,
+        meaning: Meaning,
+        at: At,
+    ) -> Result<(), ResolveRefusal>
+        ensures { Gives (λ _. self.new) result (locals.with_name line self.old (decimal self.old.at.next) meaning at) }
+    {
+        let mut buffer = Buffer::new();
+        let name = buffer.format(self.at.next).as_bytes();
+        self.scope.define_owned(alloc, line, b'%', name, meaning)?;
+        self.at = at;
+        Ok(())
+    }
+
     /// With a parameter.
     #[tactic(auto, unfolding(crate::specs::Locals::with_param))]
-    fn add_param(&mut self, alloc: Global, line: u32, param: &Param) -> Result<(), ResolveRefusal>
+    fn add_param(
+        &mut self,
+        alloc: Global,
+        line: u32,
+        param: &'a Param,
+    ) -> Result<(), ResolveRefusal>
         ensures { Gives (λ _. self.new) result (locals.with_param line self.old param.now) }
     {
         let at = self.at.behind_param(param)?;
@@ -59,10 +84,7 @@ impl Locals {
         };
         match &param.name {
             Some(name) => self.add(alloc, line, name.as_slice(), meaning, at),
-            None => {
-                let name = decimal_name(alloc, self.at.next)?;
-                self.add(alloc, line, name.as_slice(), meaning, at)
-            }
+            None => self.add_number(alloc, line, meaning, at),
         }
     }
 
@@ -71,7 +93,7 @@ impl Locals {
         &mut self,
         alloc: Global,
         line: u32,
-        params: &[Param],
+        params: &'a [Param],
     ) -> Result<(), ResolveRefusal>
         ensures { Gives (λ _. self.new) result (locals.with_params line self.old params.now) }
     {
@@ -85,7 +107,7 @@ impl Locals {
 
     /// With a label.
     #[tactic(auto, unfolding(crate::specs::Locals::with_label))]
-    fn add_label(&mut self, alloc: Global, line: u32, name: &[u8]) -> Result<(), ResolveRefusal>
+    fn add_label(&mut self, alloc: Global, line: u32, name: &'a [u8]) -> Result<(), ResolveRefusal>
         ensures { Gives (λ _. self.new) result (locals.with_label line self.old name.now) }
     {
         let at = self.at.behind_label(name)?;
@@ -101,18 +123,11 @@ impl Locals {
             return Ok(());
         }
         let at = self.at.opened()?;
-        let name = decimal_name(alloc, self.at.next)?;
-        self.add(
-            alloc,
-            line,
-            name.as_slice(),
-            Meaning::Block(self.at.blocks),
-            at,
-        )
+        self.add_number(alloc, line, Meaning::Block(self.at.blocks), at)
     }
 
     /// With the result of an instruction, if it has one.
-    fn add_result(&mut self, alloc: Global, line: u32, stmt: &Stmt) -> Result<(), ResolveRefusal>
+    fn add_result(&mut self, alloc: Global, line: u32, stmt: &'a Stmt) -> Result<(), ResolveRefusal>
         ensures { Gives (λ _. self.new) result (locals.with_result line self.old stmt.now stmt.now.result) }
     {
         let at = self.at.behind_inst(stmt)?;
@@ -133,7 +148,7 @@ impl Locals {
 
     /// With an instruction.
     #[tactic(auto, unfolding(crate::specs::Locals::with_stmt))]
-    fn add_stmt(&mut self, alloc: Global, line: u32, stmt: &Stmt) -> Result<(), ResolveRefusal>
+    fn add_stmt(&mut self, alloc: Global, line: u32, stmt: &'a Stmt) -> Result<(), ResolveRefusal>
         ensures { Gives (λ _. self.new) result (locals.with_stmt line self.old stmt.now) }
     {
         self.add_opened(alloc, line)?;
@@ -142,7 +157,7 @@ impl Locals {
     }
 
     /// With a line of the body.
-    fn add_line(&mut self, alloc: Global, line: u32, form: &Line) -> Result<(), ResolveRefusal>
+    fn add_line(&mut self, alloc: Global, line: u32, form: &'a Line) -> Result<(), ResolveRefusal>
         ensures { Gives (λ _. self.new) result (locals.with_line line self.old form.now) }
     {
         match form {
@@ -153,7 +168,7 @@ impl Locals {
     }
 
     /// With all lines of the body.
-    fn add_lines(&mut self, alloc: Global, body: &[Numbered]) -> Result<(), ResolveRefusal>
+    fn add_lines(&mut self, alloc: Global, body: &'a [Numbered]) -> Result<(), ResolveRefusal>
         ensures { Gives (λ _. self.new) result (locals.with_lines self.old body.now) }
     {
         let mut rest = body;
@@ -167,12 +182,12 @@ impl Locals {
 
 /// The names of a function whose header stands in this line.
 #[tactic(auto, unfolding(crate::specs::Locals::locals_of))]
-pub(crate) fn locals_of(
+pub(crate) fn locals_of<'a>(
     alloc: Global,
     line: u32,
-    head: &Head,
-    body: &[Numbered],
-) -> Result<Locals, ResolveRefusal>
+    head: &'a Head,
+    body: &'a [Numbered],
+) -> Result<Locals<'a>, ResolveRefusal>
     ensures { Gives (λ whole. whole) result (locals.locals_of line head.now body.now) }
 {
     let mut whole = Locals {

@@ -3,14 +3,12 @@
 //! It is a few counts; a count that would pass its last value is answered as want of memory.
 
 ghost use Rattle.std.specs.Prelude.{◌≡◌, ◌+◌, IfOk, length};
-ghost use Rattle.std.specs.Fmt.{decimal};
 ghost use Rattle.ir_types.specs.Formed.{is_terminator};
 ghost use Rattle.ir_types_check.specs.Outline as outline;
 
 use crate::scope::copied;
 use ir_line::{Line, Stmt};
 use ir_types::{Bytes, Op, Param};
-use itoa::Buffer;
 use std::alloc::{AllocError, Global};
 
 /// Where the next line stands.
@@ -42,15 +40,6 @@ pub(crate) fn count_of(len: usize) -> Result<u32, AllocError>
     } else {
         Err(AllocError)
     }
-}
-
-/// The decimal digits of a number.
-pub(crate) fn decimal_name(alloc: Global, number: u32) -> Result<Bytes, AllocError>
-    ensures { IfOk result (λ name. name ≡ decimal number) }
-{
-    let mut buffer = Buffer::new();
-    let digits = copied(alloc, buffer.format(number).as_bytes())?;
-    Ok(digits)
 }
 
 /// Whether a name is a number.

@@ -102,10 +102,10 @@ fn copy_of(alloc: Global, written: &Written) -> Result<Written, AllocError>
 }
 
 /// Whether an operand is the one that its block brought before, if it did. Else it is kept.
-fn brings(
-    brought: &mut Scope<Written>,
+fn brings<'a>(
+    brought: &mut Scope<'a, Written>,
     alloc: Global,
-    label: &[u8],
+    label: &'a [u8],
     opd: &Written,
 ) -> Result<bool, AllocError>
     ensures fits { IfOk result (λ fits. fits ≡ typed.is_brought (meaning label.now brought.old) opd.now) }
@@ -115,7 +115,7 @@ fn brings(
         Some(before) => Ok(same_opd(before, opd)),
         None => {
             let copy = copy_of(alloc, opd)?;
-            brought.add(alloc, label, copy)?;
+            brought.add(label, copy)?;
             Ok(true)
         }
     }
@@ -170,6 +170,7 @@ fn sources_at(sources: &Sources, to: u32) -> &[u32]
 }
 
 /// Whether a phi of the block fits the edges to it.
+#[inline(never)]
 pub(crate) fn phi_fits(
     alloc: Global,
     locals: &Scope<Meaning>,

@@ -5,8 +5,6 @@
 ghost use Rattle.std.specs.Prelude.{◌≡◌};
 ghost use Rattle.ir_types_check.specs.Resolved as resolved;
 
-use crate::building::Done;
-use crate::tops::Tops;
 use ir_line::DraftItem;
 use ir_types::{Module, Numbers};
 
@@ -19,7 +17,7 @@ pub struct Resolved {
 }
 
 /// The first line that says that the layout is big-endian.
-fn big_endian_line(items: &[DraftItem]) -> Option<u32>
+pub(crate) fn big_endian_line(items: &[DraftItem]) -> Option<u32>
     ensures { result ≡ resolved.big_endian_line items.now }
 {
     let mut rest = items;
@@ -39,20 +37,5 @@ fn big_line(item: &DraftItem) -> Option<u32>
     match item {
         DraftItem::Kept { line, kept } => { if kept.big_endian { Some(*line) } else { None } }
         _ => None,
-    }
-}
-
-/// The module of these items.
-#[tactic(auto, unfolding(crate::specs::Resolved::module_of))]
-pub(crate) fn module_of(tops: Tops, items: &[DraftItem], done: Done) -> Resolved
-    ensures { result ≡ resolved.module_of tops items.now done }
-{
-    Resolved {
-        module: Module {
-            items: done.items,
-            globals: tops.globals,
-            big_endian_line: big_endian_line(items),
-        },
-        lines: done.lines,
     }
 }

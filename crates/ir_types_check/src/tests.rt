@@ -99,7 +99,7 @@ fn is_twice(
     at: u32,
     known_by: &[u8],
 ) -> Result<(), Fail> {
-    let whole = resolve(alloc, &draft(alloc, lines)?);
+    let whole = resolve(alloc, draft(alloc, lines)?);
     match &whole {
         Err(ResolveRefusal::TwiceDefined { line, name }) => {
             assert_eq!(rt; *line, at);
@@ -117,7 +117,7 @@ fn is_unknown(
     at: u32,
     known_by: &[u8],
 ) -> Result<(), Fail> {
-    let whole = resolve(alloc, &draft(alloc, lines)?);
+    let whole = resolve(alloc, draft(alloc, lines)?);
     match &whole {
         Err(ResolveRefusal::Unknown { line, name }) => {
             assert_eq!(rt; *line, at);
@@ -129,7 +129,7 @@ fn is_unknown(
 }
 
 fn is_ill(rt: &impl Abort, alloc: Global, lines: &[&[u8]], at: u32) -> Result<(), Fail> {
-    let whole = resolve(alloc, &draft(alloc, lines)?);
+    let whole = resolve(alloc, draft(alloc, lines)?);
     match &whole {
         Err(ResolveRefusal::IllTyped { line }) => {
             assert_eq!(rt; *line, at);
@@ -140,7 +140,7 @@ fn is_ill(rt: &impl Abort, alloc: Global, lines: &[&[u8]], at: u32) -> Result<()
 }
 
 fn is_fine(rt: &impl Abort, alloc: Global, lines: &[&[u8]], at: &[u32]) -> Result<(), Fail> {
-    let whole = resolve(alloc, &draft(alloc, lines)?);
+    let whole = resolve(alloc, draft(alloc, lines)?);
     match &whole {
         Ok(whole) => assert!(rt; whole.lines.as_slice() == at),
         Err(_) => assert!(rt; false),

@@ -1,27 +1,27 @@
-//! The types of a draft whose names are known.
+//! The types of a function whose names are known.
 //!
-//! `items_typed` is the entry point. It fails at the first line that is ill typed, or for want of memory.
+//! `judge` is the entry point, for one statement: it keeps the first line that is ill typed aside, as a name that is unknown later
+//! comes first. Want of memory is the only failure.
 
-ghost use Rattle.std.specs.Prelude.{◌≡◌, [], IfOk};
+ghost use Rattle.std.specs.Prelude.{◌≡◌, [], IfOk, OnOk};
 ghost use Rattle.std.specs.List.{list_all};
+ghost use Rattle.ir_line.specs.declared.line.Line.TheVariants.{Stmt as StmtLine};
 ghost use Rattle.ir_types_check.specs.Answers.{Gives, well_typed};
+ghost use Rattle.ir_types_check.specs.InOrder.{told, first_told};
 ghost use Rattle.ir_types_check.specs.Links.{choices};
-ghost use Rattle.ir_types_check.specs.Outline.{start};
-ghost use Rattle.ir_types_check.specs.OwnNames.{AreOwnNames};
 ghost use Rattle.ir_types_check.specs.Typed as typed;
 
 use crate::ResolveRefusal;
 use crate::cases::Seen;
-use crate::edges::{Sources, number_of, sources_of, targets};
+use crate::context::Context;
+use crate::edges::{number_of, targets};
 use crate::links::lane_of;
-use crate::locals::{Locals, Meaning};
-use crate::module_names::ModuleNames;
+use crate::locals::Meaning;
 use crate::outline::At;
 use crate::phis::phi_fits;
 use crate::scope::Scope;
-use crate::tops::Top;
-use crate::types::{args_fit, calls, first_ty, same_ty};
-use ir_line::{DraftItem, Head, Line, Numbered, Stmt};
+use crate::types::{calls, first_ty, same_ty};
+use ir_line::{Line, Numbered, Stmt};
 use ir_types::{Literal, Op, Ty};
 use std::alloc::{AllocError, Global};
 
@@ -51,47 +51,47 @@ fn are_targets(numbers: &[u32]) -> bool
 }
 
 /// Whether a statement of the block does what its operation asks, but for the types of operands.
-fn op_fits(
-    alloc: Global,
-    tops: &Scope<Top>,
-    locals: &Scope<Meaning>,
-    ret: Ty,
-    sources: &Sources,
-    here: u32,
-    stmt: &Stmt,
-) -> Result<bool, AllocError>
-    ensures { IfOk result (λ fits. fits ≡ typed.op_fits tops.now locals.now ret sources.now here stmt.now stmt.now.op) }
+fn op_fits(alloc: Global, known: &Context, here: u32, stmt: &Stmt) -> Result<bool, AllocError>
+    ensures { IfOk result (λ fits. fits ≡ typed.op_fits known.now.tops.now known.now.locals.now known.now.ret known.now.sources.now here stmt.now stmt.now.op) }
 {
     match &stmt.op {
-        Op::Ret => Ok(same_ty(first_ty(stmt.args.as_slice()), ret)),
-        Op::Phi { blocks } => phi_fits(alloc, locals, sources, here, stmt, blocks.as_slice()),
+        Op::Ret => Ok(same_ty(first_ty(stmt.args.as_slice()), known.ret)),
+        Op::Phi { blocks } => {
+            phi_fits(
+                alloc,
+                known.locals,
+                known.sources,
+                here,
+                stmt,
+                blocks.as_slice(),
+            )
+        }
         Op::Call(site) => {
             let callee = site.get().callee.as_slice();
-            Ok(calls(tops, callee, stmt.ty, stmt.args.as_slice()))
+            Ok(calls(known.tops, callee, stmt.ty, stmt.args.as_slice()))
         }
         op => {
-            let targets = targets(alloc, locals, &stmt.labels, op)?;
+            let targets = targets(alloc, known.locals, &stmt.labels, op)?;
             Ok(are_targets(targets.as_slice()))
         }
     }
 }
 
-/// Whether a statement of the block is well typed, but for its cases.
+/// Whether a statement of the block is well typed, but for its cases. Whether its operands have their written types is given.
 fn stmt_fits(
     alloc: Global,
-    tops: &Scope<Top>,
-    locals: &Scope<Meaning>,
-    ret: Ty,
-    sources: &Sources,
+    known: &Context,
     here: u32,
     stmt: &Stmt,
+    args_fit: bool,
 ) -> Result<bool, AllocError>
-    ensures { IfOk result (λ fits. fits ≡ typed.stmt_fits tops.now locals.now ret sources.now here stmt.now) }
+    requires { args_fit ≡ list_all (typed.arg_fits known.now.locals.now) stmt.now.args }
+    ensures { IfOk result (λ fits. fits ≡ typed.stmt_fits known.now.tops.now known.now.locals.now known.now.ret known.now.sources.now here stmt.now) }
 {
-    if !args_fit(locals, stmt.args.as_slice()) {
+    if !args_fit {
         return Ok(false);
     }
-    op_fits(alloc, tops, locals, ret, sources, here, stmt)
+    op_fits(alloc, known, here, stmt)
 }
 
 /// The number of a case.
@@ -119,6 +119,7 @@ fn choice_fits(
 }
 
 /// The cases at the front of these lines.
+#[inline(never)]
 fn choices_typed(
     alloc: Global,
     locals: &Scope<Meaning>,
@@ -158,101 +159,47 @@ fn cases_typed(
     }
 }
 
-/// A line, behind which these follow.
-fn line_typed(
+/// A statement in this line, after which these follow. Whether its operands have their written types is given.
+fn stmt_typed(
     alloc: Global,
-    tops: &Scope<Top>,
-    locals: &Scope<Meaning>,
-    ret: Ty,
-    sources: &Sources,
+    known: &Context,
     at: At,
     line: u32,
-    form: &Line,
+    stmt: &Stmt,
+    args_fit: bool,
     rest: &[Numbered],
 ) -> Result<(), ResolveRefusal>
-    ensures { Gives (λ done. done) result (typed.line_typed tops.now locals.now ret sources.now at line form.now rest.now) }
+    requires { args_fit ≡ list_all (typed.arg_fits known.now.locals.now) stmt.now.args }
+    ensures { Gives (λ done. done) result (typed.line_typed known.now.tops.now known.now.locals.now known.now.ret known.now.sources.now at line (StmtLine stmt.now) rest.now) }
 {
-    match form {
-        Line::Stmt(stmt) => {
-            let fits = stmt_fits(alloc, tops, locals, ret, sources, at.block_here(), stmt)?;
-            require(line, fits)?;
-            cases_typed(alloc, locals, stmt, rest)
+    let fits = stmt_fits(alloc, known, at.block_here(), stmt, args_fit)?;
+    require(line, fits)?;
+    cases_typed(alloc, known.locals, stmt, rest)
+}
+
+/// The same, where the first line that is ill typed is kept.
+pub(crate) fn judge(
+    alloc: Global,
+    known: &Context,
+    at: At,
+    line: u32,
+    stmt: &Stmt,
+    args_fit: bool,
+    rest: &[Numbered],
+    ill: &mut Option<u32>,
+) -> Result<(), AllocError>
+    requires { args_fit ≡ list_all (typed.arg_fits known.now.locals.now) stmt.now.args }
+    ensures { OnOk result (told ill.new ≡ first_told ill.old (typed.line_typed known.now.tops.now known.now.locals.now known.now.ret known.now.sources.now at line (StmtLine stmt.now) rest.now)) }
+{
+    if ill.is_some() {
+        return Ok(());
+    }
+    match stmt_typed(alloc, known, at, line, stmt, args_fit, rest) {
+        Ok(()) => Ok(()),
+        Err(ResolveRefusal::IllTyped { line }) => {
+            *ill = Some(line);
+            Ok(())
         }
-        _ => Ok(()),
+        Err(_) => Err(AllocError),
     }
-}
-
-/// The lines of a function.
-fn lines_typed(
-    alloc: Global,
-    tops: &Scope<Top>,
-    locals: &Scope<Meaning>,
-    ret: Ty,
-    sources: &Sources,
-    body: &[Numbered],
-) -> Result<(), ResolveRefusal>
-    ensures { Gives (λ done. done) result (typed.lines_typed tops.now locals.now ret sources.now start body.now) }
-{
-    let mut at = At::start();
-    let mut rest = body;
-    'each: while let [first, after @ ..] = rest {
-        line_typed(
-            alloc,
-            tops,
-            locals,
-            ret,
-            sources,
-            at,
-            first.line,
-            &first.form,
-            after,
-        )?;
-        at = at.behind(&first.form)?;
-        rest = after;
-    }
-    Ok(())
-}
-
-/// A function, whose names these are.
-fn function_typed(
-    alloc: Global,
-    tops: &Scope<Top>,
-    own: &Locals,
-    head: &Head,
-    body: &[Numbered],
-) -> Result<(), ResolveRefusal>
-    ensures { Gives (λ done. done) result (typed.lines_typed tops.now own.now.scope head.now.ret (typed.sources_of own.now body.now) start body.now) }
-{
-    let sources = sources_of(alloc, own, body)?;
-    lines_typed(alloc, tops, &own.scope, head.ret, &sources, body)
-}
-
-/// All items, whose names these are.
-#[tactic(auto, unfolding(crate::specs::Typed::function_typed))]
-pub(crate) fn items_typed(
-    alloc: Global,
-    names: &ModuleNames,
-    items: &[DraftItem],
-) -> Result<(), ResolveRefusal>
-    requires { AreOwnNames items.now names.now.own }
-    ensures { Gives (λ done. done) result (typed.items_typed names.now.tops.scope items.now) }
-{
-    let mut own = names.own.as_slice();
-    let mut rest = items;
-    'each: while let [item, after @ ..] = rest {
-        if let DraftItem::Func {
-            line: _,
-            head,
-            body,
-        } = item
-        {
-            let [first, more @ ..] = own else {
-                unreachable!()
-            };
-            function_typed(alloc, &names.tops.scope, first, head, body.as_slice())?;
-            own = more;
-        }
-        rest = after;
-    }
-    Ok(())
 }

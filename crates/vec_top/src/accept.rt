@@ -20,12 +20,12 @@ use ir_types_check::{ResolveRefusal, Resolved, resolve};
 use std::alloc::{AllocError, Global};
 use vx_list::{Equal, Seq};
 
-/// The text as a draft.
-fn drafted(alloc: Global, bytes: &[u8]) -> Result<Draft, Fault>
-    requires { length bytes.now + 1 < 2 ^ 32 }
-    ensures { making.Drafts bytes.now result }
+/// The text as a draft. The text is dropped.
+fn drafted(alloc: Global, bytes: Vec<u8>) -> Result<Draft, Fault>
+    requires { length bytes.items + 1 < 2 ^ 32 }
+    ensures { making.Drafts bytes.items result }
 {
-    match read(alloc, bytes) {
+    match read(alloc, bytes.as_slice()) {
         Ok(draft) => Ok(draft),
         Err(ReadRefusal::Lex { line, byte }) => Err(Fault::Refused(Cause::Lex { line, byte })),
         Err(ReadRefusal::NotALine { line }) => Err(Fault::Refused(Cause::NotALine { line })),
@@ -36,12 +36,12 @@ fn drafted(alloc: Global, bytes: &[u8]) -> Result<Draft, Fault>
 }
 
 /// The text with its names and types resolved.
-fn resolved(alloc: Global, bytes: &[u8]) -> Result<Resolved, Fault>
-    requires { length bytes.now + 1 < 2 ^ 32 }
-    ensures { making.ResolvesTo bytes.now result }
+fn resolved(alloc: Global, bytes: Vec<u8>) -> Result<Resolved, Fault>
+    requires { length bytes.items + 1 < 2 ^ 32 }
+    ensures { making.ResolvesTo bytes.items result }
 {
     let draft = drafted(alloc, bytes)?;
-    match resolve(alloc, &draft) {
+    match resolve(alloc, draft) {
         Ok(resolved) => Ok(resolved),
         Err(ResolveRefusal::TwiceDefined { line, name }) => Err(Fault::Refused(Cause::TwiceDefined {
             line,
@@ -165,9 +165,9 @@ fn little_endian(m: Module) -> Result<Module, Fault>
 }
 
 /// The module that a text is, where nothing is wrong with it. The text has fewer than 2^32 - 1 bytes.
-pub(crate) fn accepted(alloc: Global, bytes: &[u8]) -> Result<Module, Fault>
-    requires { length bytes.now + 1 < 2 ^ 32 }
-    ensures { making.AcceptsTo bytes.now result }
+pub(crate) fn accepted(alloc: Global, bytes: Vec<u8>) -> Result<Module, Fault>
+    requires { length bytes.items + 1 < 2 ^ 32 }
+    ensures { making.AcceptsTo bytes.items result }
 {
     let resolved = resolved(alloc, bytes)?;
     if let Err(refusal) = check(alloc, &resolved.module) {

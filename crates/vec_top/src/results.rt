@@ -35,8 +35,8 @@ fn printed(alloc: Global, m: &Module) -> Result<Vec<u8>, Fault>
 }
 
 /// The text of the module in which two neighbouring stores became one.
-fn optimized(alloc: Global, m: &Module) -> Result<Vec<u8>, Fault>
-    ensures { making.ResultFor Opt m.now result }
+fn optimized(alloc: Global, m: Module) -> Result<Vec<u8>, Fault>
+    ensures { making.ResultFor Opt m result }
 {
     pair_refines();
     match pair(alloc, m) {
@@ -97,13 +97,13 @@ fn ran(alloc: Global, m: &Module, steps: u64, words: &Names) -> Result<Vec<u8>, 
 }
 
 /// The text that a command makes of a module.
-pub(crate) fn text_of(alloc: Global, command: &Command, m: &Module) -> Result<Vec<u8>, Fault>
-    requires { making.IsReady m.now }
-    ensures { making.ResultFor command.now m.now result }
+pub(crate) fn text_of(alloc: Global, command: &Command, m: Module) -> Result<Vec<u8>, Fault>
+    requires { making.IsReady m }
+    ensures { making.ResultFor command.now m result }
 {
     match command {
-        Command::Print => printed(alloc, m),
+        Command::Print => printed(alloc, &m),
         Command::Opt => optimized(alloc, m),
-        Command::Run { steps, words } => ran(alloc, m, *steps, words),
+        Command::Run { steps, words } => ran(alloc, &m, *steps, words),
     }
 }

@@ -19,12 +19,12 @@ use vx_io::{ReadRefusal, Sink, Source, WriteFault, read_all, write_all};
 const BYTE_LIMIT: u64 = 16_777_216;
 
 /// The text to write for some bytes.
-fn text_for(alloc: Global, command: &Command, bytes: &[u8]) -> Result<Vec<u8>, Fault>
-    requires { length bytes.now + 1 < 2 ^ 32 }
-    ensures { making.TextFor command.now bytes.now result }
+fn text_for(alloc: Global, command: &Command, bytes: Vec<u8>) -> Result<Vec<u8>, Fault>
+    requires { length bytes.items + 1 < 2 ^ 32 }
+    ensures { making.TextFor command.now bytes.items result }
 {
     let module = accepted(alloc, bytes)?;
-    text_of(alloc, command, &module)
+    text_of(alloc, command, module)
 }
 
 /// The text to write, from the input.
@@ -32,7 +32,7 @@ fn make_for<S: Source>(alloc: Global, command: &Command, input: &mut S) -> Resul
     ensures { making.MakesFor command.now (S.left input.old) (S.left input.new) (S.faults input.old) (S.faults input.new) result }
 {
     match read_all(alloc, input, BYTE_LIMIT) {
-        Ok(bytes) => text_for(alloc, command, bytes.as_slice()),
+        Ok(bytes) => text_for(alloc, command, bytes),
         Err(ReadRefusal::ReadFault) => Err(Fault::ReadFault),
         Err(ReadRefusal::TooLong) => Err(Fault::TooLong),
         Err(ReadRefusal::OutOfMemory) => Err(Fault::NoMemory),

@@ -3,9 +3,9 @@
 //! The rule is the definition `pair_of`; this is its only entry point, and the files of this folder serve it alone. The time is
 //! linear in the module, but for hashing. Want of memory is the only failure.
 
-ghost use Rattle.std.specs.Prelude.{◌≡◌, ◌<◌, ◌++◌, List, [], ◌∷◌, length, IfOk, OnOk};
-ghost use Rattle.ir_types.specs.declared.module.Item.TheVariants.{Func as FuncItem};
-ghost use Rattle.vx_serial.specs.Pair.{Leads, leads_at_start, paired, or_same, pair_in_blocks, pair_in_func, pair_of};
+ghost use Rattle.std.specs.Prelude.{◌≡◌, ◌<◌, ◌++◌, List, cond, length, IfOk, OnOk};
+ghost use Rattle.vx_serial.specs.Pair.{Leads, leads_at_start, paired, or_same, pair_in_blocks, pair_in_func, pair_in_items, pair_of};
+ghost use Rattle.vx_serial.specs.Pair as first;
 ghost use Rattle.vx_serial.specs.PairScan.{with_found};
 ghost use Rattle.vx_serial.specs.PairPlaces.{JoinsLeast};
 ghost use Rattle.ir_types.specs.declared.inst.Inst.{Inst};
@@ -19,75 +19,91 @@ use ir_types::{Block, Blocks, Func, Inst, Insts, Item, Items, Module, OutOfMemor
 use leads::Known;
 use scan::{Found, first_pair};
 use std::alloc::Global;
-use vx_list::TryClone;
+use vx_list::{Seq, TryClone};
 
 /// The module in which the first two neighbouring stores of literals have become one vector store; where there are none, or
-/// the module is not one function of the first forms, the same module.
-pub fn pair(alloc: Global, m: &Module) -> Result<Module, OutOfMemory>
-    ensures { IfOk result (λ new. new ≡ pair_of m.now) }
+/// the module is not one function of the first forms, the module as it was given, with nothing copied.
+pub fn pair(alloc: Global, m: Module) -> Result<Module, OutOfMemory>
+    ensures { IfOk result (λ new. new ≡ pair_of m) }
 {
-    match m.items.as_slice() {
-        [Item::Func(func)] => with_func(alloc, m, func),
-        _ => m.try_clone(alloc),
-    }
-}
-
-/// The module of one function.
-fn with_func(alloc: Global, m: &Module, func: &Func) -> Result<Module, OutOfMemory>
-    requires { m.now.items ≡ FuncItem func.now ∷ [] }
-    ensures { IfOk result (λ new. new ≡ pair_of m.now) }
-{
-    if !is_first_func(func) {
-        return m.try_clone(alloc);
-    }
-    let mut items = Items::new(alloc);
-    items.push(Item::Func(joined_func(alloc, func)?))?;
+    let Module {
+        items,
+        globals,
+        big_endian_line,
+    } = m;
+    let items = joined_items(alloc, items)?;
     Ok(Module {
         items,
-        globals: m.globals.try_clone(alloc)?,
-        big_endian_line: m.big_endian_line,
+        globals,
+        big_endian_line,
     })
 }
 
-/// The function with its pair joined.
-fn joined_func(alloc: Global, func: &Func) -> Result<Func, OutOfMemory>
-    ensures { IfOk result (λ new. new ≡ pair_in_func func.now) }
+/// The items with the pair joined, where there is one item.
+fn joined_items(alloc: Global, items: Items) -> Result<Items, OutOfMemory>
+    ensures { IfOk result (λ new. new ≡ pair_in_items items) }
 {
+    if items.len() != 1 {
+        return Ok(items);
+    }
+    let mut items = items.into_vec();
+    match items.pop() {
+        Some(Item::Func(func)) => items.push(Item::Func(joined_func(alloc, func)?))?,
+        Some(kept) => items.push(kept)?,
+        None => {}
+    }
+    Ok(Seq::from_vec(items))
+}
+
+/// The function with its pair joined, where it is of the first forms.
+fn joined_func(alloc: Global, func: Func) -> Result<Func, OutOfMemory>
+    ensures { IfOk result (λ new. new ≡ cond (first.is_first_func func) (pair_in_func func) func) }
+{
+    if !is_first_func(&func) {
+        return Ok(func);
+    }
+    let Func {
+        before,
+        ret,
+        name,
+        params,
+        after,
+        blocks,
+    } = func;
+    let blocks = joined_blocks(alloc, &params, blocks)?;
     Ok(Func {
-        before: func.before.try_clone(alloc)?,
-        ret: func.ret,
-        name: func.name.try_clone(alloc)?,
-        params: func.params.try_clone(alloc)?,
-        after: func.after.try_clone(alloc)?,
-        blocks: joined_blocks(alloc, &func.params, &func.blocks)?,
+        before,
+        ret,
+        name,
+        params,
+        after,
+        blocks,
     })
 }
 
 /// The blocks with the pair joined, where there is one block.
-fn joined_blocks(alloc: Global, params: &Params, blocks: &Blocks) -> Result<Blocks, OutOfMemory>
-    ensures { IfOk result (λ new. new ≡ pair_in_blocks params.now blocks.now) }
+fn joined_blocks(alloc: Global, params: &Params, blocks: Blocks) -> Result<Blocks, OutOfMemory>
+    ensures { IfOk result (λ new. new ≡ pair_in_blocks params.now blocks) }
 {
-    match blocks.as_slice() {
-        [block] => {
-            let mut only = Blocks::new(alloc);
-            only.push(Block {
-                name: block.name.try_clone(alloc)?,
-                insts: joined_insts(alloc, params, &block.insts)?,
-            })?;
-            Ok(only)
-        }
-        _ => blocks.try_clone(alloc),
+    if blocks.len() != 1 {
+        return Ok(blocks);
     }
+    let mut blocks = blocks.into_vec();
+    if let Some(Block { name, insts }) = blocks.pop() {
+        let insts = joined_insts(alloc, params, insts)?;
+        blocks.push(Block { name, insts })?;
+    }
+    Ok(Seq::from_vec(blocks))
 }
 
 /// The instructions with the pair joined.
-fn joined_insts(alloc: Global, params: &Params, insts: &Insts) -> Result<Insts, OutOfMemory>
-    ensures { IfOk result (λ new. new ≡ or_same insts.now (paired (leads_at_start params.now) insts.now)) }
+fn joined_insts(alloc: Global, params: &Params, insts: Insts) -> Result<Insts, OutOfMemory>
+    ensures { IfOk result (λ new. new ≡ or_same insts (paired (leads_at_start params.now) insts)) }
 {
     let mut known = Known::at_start(alloc, params.as_slice())?;
     match first_pair(alloc, &mut known, insts.as_slice())? {
         Some(found) => join(alloc, insts.as_slice(), found),
-        None => insts.try_clone(alloc),
+        None => Ok(insts),
     }
 }
 

@@ -217,7 +217,7 @@ fn module(alloc: Global, noalias: bool, lines: &[Line]) -> Result<Module, AllocE
 
 /// Whether the pair of the first lines is the second lines.
 fn pairs_to(alloc: Global, noalias: bool, old: &[Line], new: &[Line]) -> Result<bool, AllocError> {
-    let paired = pair(alloc, &module(alloc, noalias, old)?)?;
+    let paired = pair(alloc, module(alloc, noalias, old)?)?;
     Ok(paired.equal(&module(alloc, noalias, new)?))
 }
 
