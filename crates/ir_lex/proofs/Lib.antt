@@ -4,7 +4,9 @@ pub mod Classes
 pub mod Cutting
 mod Examples
 pub mod Faulty
+pub mod Lanes
 pub mod Laws
 pub mod Longer
 pub mod Runs
 pub mod Standing
+pub mod Table

@@ -37,3 +37,7 @@ is_blank b = b == 32 || b == 9
 -- a byte that may stand nowhere: below 32 and no tab, or 127
 unfoldable pub is_control : ℕ → Bool
 is_control b = nat_lt b 32 && not (b == 9) || b == 127
+
+-- a byte that may be a fault, or may change the part of the line: a control byte, a quote or a semicolon
+unfoldable pub is_notable : ℕ → Bool
+is_notable b = is_control b || b == quote || b == semicolon

@@ -1,62 +1,166 @@
 //! The classes of bytes that tokens are made of.
 //!
-//! Each test is on one byte and total; bytes of 128 and above are in no class.
+//! Each byte has one class, which stands at its place in the table, and each test is one look at it. A byte of 128 or above is a
+//! token of its own.
 
 ghost use Rattle.std.specs.Prelude.{◌≡◌};
-ghost use Rattle.ir_lex.specs.Bytes.{begins_name, is_word_byte, is_digit, is_sigil, is_mark, is_blank, is_control};
+ghost use Rattle.ir_lex.specs.Bytes as bytes;
 
-/// Whether a byte may begin a plain name behind its `@` or `%`.
-#[tactic(auto, unfolding(crate::specs::Bytes::begins_name))]
+use Class::{At, Blank, Control, Digit, Mark, Name, Percent, Quote, Remark, Single};
+
+/// What a byte is where a token may begin.
+#[derive(Clone, Copy, Debug)]
+enum Class {
+    /// A letter, `-`, `$`, `.` or `_`.
+    Name,
+    /// A decimal digit.
+    Digit,
+    /// A space or a tab.
+    Blank,
+    /// `@`.
+    At,
+    /// `%`.
+    Percent,
+    /// `!`, `#` or `^`.
+    Mark,
+    /// Any other byte that may stand in a line.
+    Single,
+    /// `"`.
+    Quote,
+    /// `;`.
+    Remark,
+    /// A byte that may stand nowhere in a line.
+    Control,
+}
+
+static CLASSES: [Class; 256] = [
+    Control, Control, Control, Control, Control, Control, Control, Control, Control, Blank,
+    Control, Control, Control, Control, Control, Control, Control, Control, Control, Control,
+    Control, Control, Control, Control, Control, Control, Control, Control, Control, Control,
+    Control, Control, Blank, Mark, Quote, Mark, Name, Percent, Single, Single, Single, Single,
+    Single, Single, Single, Name, Name, Single, Digit, Digit, Digit, Digit, Digit, Digit, Digit,
+    Digit, Digit, Digit, Single, Remark, Single, Single, Single, Single, At, Name, Name, Name,
+    Name, Name, Name, Name, Name, Name, Name, Name, Name, Name, Name, Name, Name, Name, Name, Name,
+    Name, Name, Name, Name, Name, Name, Name, Single, Single, Single, Mark, Name, Single, Name,
+    Name, Name, Name, Name, Name, Name, Name, Name, Name, Name, Name, Name, Name, Name, Name, Name,
+    Name, Name, Name, Name, Name, Name, Name, Name, Name, Single, Single, Single, Single, Control,
+    Single, Single, Single, Single, Single, Single, Single, Single, Single, Single, Single, Single,
+    Single, Single, Single, Single, Single, Single, Single, Single, Single, Single, Single, Single,
+    Single, Single, Single, Single, Single, Single, Single, Single, Single, Single, Single, Single,
+    Single, Single, Single, Single, Single, Single, Single, Single, Single, Single, Single, Single,
+    Single, Single, Single, Single, Single, Single, Single, Single, Single, Single, Single, Single,
+    Single, Single, Single, Single, Single, Single, Single, Single, Single, Single, Single, Single,
+    Single, Single, Single, Single, Single, Single, Single, Single, Single, Single, Single, Single,
+    Single, Single, Single, Single, Single, Single, Single, Single, Single, Single, Single, Single,
+    Single, Single, Single, Single, Single, Single, Single, Single, Single, Single, Single, Single,
+    Single, Single, Single, Single, Single, Single, Single, Single, Single, Single, Single, Single,
+    Single, Single, Single, Single, Single, Single, Single, Single,
+];
+
+impl Class {
+    ghost use Rattle.ir_lex.specs.Classes as classes;
+
+    fn is_name(self) -> bool
+        ensures { result ≡ classes.is_name_class self }
+    {
+        matches!(self, Name)
+    }
+
+    fn is_word(self) -> bool
+        ensures { result ≡ classes.is_word_class self }
+    {
+        matches!(self, Name | Digit)
+    }
+
+    fn is_digit(self) -> bool
+        ensures { result ≡ classes.is_digit_class self }
+    {
+        matches!(self, Digit)
+    }
+
+    fn is_sigil(self) -> bool
+        ensures { result ≡ classes.is_sigil_class self }
+    {
+        matches!(self, At | Percent)
+    }
+
+    fn is_mark(self) -> bool
+        ensures { result ≡ classes.is_mark_class self }
+    {
+        matches!(self, Mark)
+    }
+
+    fn is_blank(self) -> bool
+        ensures { result ≡ classes.is_blank_class self }
+    {
+        matches!(self, Blank)
+    }
+
+    fn is_control(self) -> bool
+        ensures { result ≡ classes.is_control_class self }
+    {
+        matches!(self, Control)
+    }
+
+    fn is_notable(self) -> bool
+        ensures { result ≡ classes.is_notable_class self }
+    {
+        matches!(self, Quote | Remark | Control)
+    }
+}
+
+/// Whether a byte may begin a plain name after its `@` or `%`.
 pub(crate) fn begins_name(byte: u8) -> bool
-    ensures { result ≡ begins_name byte }
+    ensures { result ≡ bytes.begins_name byte }
 {
-    byte.is_ascii_alphabetic() || byte == b'-' || byte == b'$' || byte == b'.' || byte == b'_'
+    CLASSES[byte as usize].is_name()
 }
 
 /// Whether a byte may stand in a plain name or a run.
-#[tactic(auto, unfolding(crate::specs::Bytes::is_word_byte))]
 pub(crate) fn is_word_byte(byte: u8) -> bool
-    ensures { result ≡ is_word_byte byte }
+    ensures { result ≡ bytes.is_word_byte byte }
 {
-    begins_name(byte) || byte.is_ascii_digit()
+    CLASSES[byte as usize].is_word()
 }
 
 /// Whether a byte is a decimal digit.
-#[tactic(auto, unfolding(crate::specs::Bytes::is_digit))]
 pub(crate) fn is_digit(byte: u8) -> bool
-    ensures { result ≡ is_digit byte }
+    ensures { result ≡ bytes.is_digit byte }
 {
-    byte.is_ascii_digit()
+    CLASSES[byte as usize].is_digit()
 }
 
 /// Whether a byte is `@` or `%`.
-#[tactic(auto, unfolding(crate::specs::Bytes::is_sigil))]
 pub(crate) fn is_sigil(byte: u8) -> bool
-    ensures { result ≡ is_sigil byte }
+    ensures { result ≡ bytes.is_sigil byte }
 {
-    byte == b'@' || byte == b'%'
+    CLASSES[byte as usize].is_sigil()
 }
 
 /// Whether a byte is `!`, `#` or `^`.
-#[tactic(auto, unfolding(crate::specs::Bytes::is_mark))]
 pub(crate) fn is_mark(byte: u8) -> bool
-    ensures { result ≡ is_mark byte }
+    ensures { result ≡ bytes.is_mark byte }
 {
-    byte == b'!' || byte == b'#' || byte == b'^'
+    CLASSES[byte as usize].is_mark()
 }
 
 /// Whether a byte is a space or a tab.
-#[tactic(auto, unfolding(crate::specs::Bytes::is_blank))]
-pub(crate) fn is_blank(byte: u8) -> bool
-    ensures { result ≡ is_blank byte }
+pub fn is_blank(byte: u8) -> bool
+    ensures { result ≡ bytes.is_blank byte }
 {
-    byte == b' ' || byte == b'\t'
+    CLASSES[byte as usize].is_blank()
 }
 
 /// Whether a byte may stand nowhere in a line.
-#[tactic(auto, unfolding(crate::specs::Bytes::is_control))]
 pub(crate) fn is_control(byte: u8) -> bool
-    ensures { result ≡ is_control byte }
+    ensures { result ≡ bytes.is_control byte }
 {
-    byte < 32 && byte != b'\t' || byte == 127
+    CLASSES[byte as usize].is_control()
+}
+
+/// Whether a byte may be a fault, or may change what part of a line it stands in.
+pub(crate) fn is_notable(byte: u8) -> bool
+    ensures { result ≡ bytes.is_notable byte }
+{
+    CLASSES[byte as usize].is_notable()
 }

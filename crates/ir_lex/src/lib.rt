@@ -1,8 +1,9 @@
 //! The tokens of a line of the module text, or its lexical fault.
 //!
-//! The one entry point is `tokens`. A line is bytes without its line feed. It is either faulty, and the refusal names the first
-//! fault's byte, or it is cut into its tokens, each the longest that begins at its first byte; spaces, tabs and a comment stand
-//! between them and are no tokens. `text` gives a token's bytes.
+//! The entry point is `tokens`. A line is bytes without its line feed. It is either faulty, and the refusal names the first fault's
+//! byte, or it is cut into its tokens, each the longest that begins at its first byte; spaces, tabs and a comment stand between
+//! them and are no tokens. `text` gives a token's bytes. A caller who reads many lines takes the two halves of `tokens` apart:
+//! `first_fault`, and `cut_into` with one list for all lines.
 //!
 //! A token is the two places in the line between which it stands, so no byte is copied. Memory is taken for the list of tokens
 //! alone. The time is linear in the line.
@@ -19,10 +20,12 @@ mod list;
 mod refusal;
 mod scan;
 
-use faults::first_fault;
+pub use bytes::is_blank;
+pub use faults::first_fault;
 pub use list::{Token, Tokens};
 pub use refusal::LexRefusal;
 use scan::cut;
+pub use scan::cut_into;
 use std::alloc::Global;
 
 /// The tokens of a line, in order, where the line has no lexical fault.
@@ -45,7 +48,9 @@ pub fn tokens(alloc: Global, line: &[u8], number: u32) -> Result<Tokens, LexRefu
             byte: place + 1,
         });
     }
-    Ok(cut(alloc, line)?)
+    let mut tokens = Vec::new(alloc);
+    cut(&mut tokens, line)?;
+    Ok(Tokens::from_vec(tokens))
 }
 
 /// The bytes of a token in its line; of places past the line's end, those bytes that are there.
@@ -54,9 +59,9 @@ pub fn text<'a>(line: &'a [u8], token: Token) -> &'a [u8]
     ensures { result.now ≡ word line.now token }
 {
     let from = (token.from as usize).min(line.len());
-    let (_, behind) = line.split_at(from);
-    let size = (token.to.saturating_sub(token.from) as usize).min(behind.len());
-    behind.split_at(size).0
+    let (_, rest) = line.split_at(from);
+    let size = (token.to.saturating_sub(token.from) as usize).min(rest.len());
+    rest.split_at(size).0
 }
 
 #[cfg(test)]

@@ -3,8 +3,10 @@ pub mod Answering
 pub mod Bodies
 pub mod BodyLines
 pub mod CallLines
+pub mod FirstBytes
 pub mod FlagWords
 pub mod LaneValues
+pub mod LineEnds
 pub mod Lists
 pub mod OutsideLines
 pub mod Parts

@@ -16,7 +16,8 @@ use crate::headers::front;
 use crate::refusal::Stop;
 use crate::words::{all_ascii, is, is_first};
 use crate::{Line, LineRefusal};
-use ir_lex::{Token, Tokens, text};
+use ir_lex::{Token, text};
+use memchr::memchr;
 use std::alloc::Global;
 
 /// Whether a word begins with `!`.
@@ -36,8 +37,19 @@ fn begins_mark(line: &[u8], tokens: &[Token]) -> bool
     }
 }
 
-/// How many words stand before the first attachment.
+/// How many words stand before the first attachment. Most lines have no `!` at all, and then no word is looked at.
 fn attachment_at(line: &[u8], tokens: &[Token]) -> usize
+    ensures value { result ≡ body.attachment_at (words line.now tokens.now) }
+    ensures within { result ≤ length tokens.now }
+{
+    match memchr(b'!', line) {
+        None => tokens.len(),
+        Some(_) => marked_at(line, tokens),
+    }
+}
+
+/// The same, word by word.
+fn marked_at(line: &[u8], tokens: &[Token]) -> usize
     ensures value { result ≡ body.attachment_at (words line.now tokens.now) }
     ensures within { result ≤ length tokens.now }
 {
@@ -124,11 +136,11 @@ pub(crate) fn numbered(found: Result<Line, Stop>, number: u32) -> Result<Line, L
 /// Refusals: `NotALine` with the number, where the line spells no form; `OutOfMemory`.
 ///
 /// LLVM Language Reference, "Instruction Reference".
-pub fn body_line(alloc: Global, line: &[u8], t: &Tokens, number: u32) -> Result<Line, LineRefusal>
+pub fn body_line(alloc: Global, line: &[u8], t: &[Token], number: u32) -> Result<Line, LineRefusal>
     requires { Lexed line.now t.now }
     ensures found { IfOk result (body.Spells line.now t.now) }
     ensures only { (l : Line) → body.Spells line.now t.now l → Answers result (Some l) }
     ensures number { IfErr result (IsNumbered number) }
 {
-    numbered(read_body(alloc, line, t.as_slice()), number)
+    numbered(read_body(alloc, line, t), number)
 }

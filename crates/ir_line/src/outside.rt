@@ -15,7 +15,7 @@ use crate::keeping::{first_symbol, is_kept, kept};
 use crate::refusal::Stop;
 use crate::words::is_first;
 use crate::{Line, LineRefusal};
-use ir_lex::{Token, Tokens};
+use ir_lex::Token;
 use std::alloc::Global;
 
 /// Whether a line is the first of a function.
@@ -53,11 +53,16 @@ fn read_outside(alloc: Global, line: &[u8], tokens: &[Token]) -> Result<Line, St
 /// `OutOfMemory`.
 ///
 /// LLVM Language Reference, "Module Structure" and "Functions".
-pub fn module_line(alloc: Global, line: &[u8], t: &Tokens, number: u32) -> Result<Line, LineRefusal>
+pub fn module_line(
+    alloc: Global,
+    line: &[u8],
+    t: &[Token],
+    number: u32,
+) -> Result<Line, LineRefusal>
     requires { Lexed line.now t.now }
     ensures found { IfOk result (outside.Spells line.now t.now) }
     ensures only { (l : Line) → outside.Spells line.now t.now l → Answers result (Some l) }
     ensures number { IfErr result (IsNumbered number) }
 {
-    numbered(read_outside(alloc, line, t.as_slice()), number)
+    numbered(read_outside(alloc, line, t), number)
 }

@@ -295,7 +295,7 @@ fn has_form(alloc: Global, line: &[u8]) -> Result<bool, LexRefusal>
 {
     let t = tokens(alloc, line, 1)?;
     Ok(!matches!(
-        &body_line(alloc, line, &t, 5),
+        &body_line(alloc, line, t.as_slice(), 5),
         Err(LineRefusal::NotALine { line: 5 })
     ))
 }
@@ -305,7 +305,7 @@ fn kind_of(alloc: Global, line: &[u8]) -> Result<u8, LexRefusal>
     requires { length line.now + 1 < 2 ^ 32 }
 {
     let t = tokens(alloc, line, 1)?;
-    match &module_line(alloc, line, &t, 5) {
+    match &module_line(alloc, line, t.as_slice(), 5) {
         Ok(Line::Kept(_)) => Ok(0),
         Ok(
             Line::Define {
@@ -389,7 +389,7 @@ fn is_addition(stmt: Stmt) -> bool {
 fn a_statement_is_read(rt: HostRuntime) -> Result<(), LexRefusal> {
     let line = b"  %007 = add nsw nuw i8 255, -128, !dbg !1".as_slice();
     let t = tokens(rt.alloc(), line, 1)?;
-    match body_line(rt.alloc(), line, &t, 1) {
+    match body_line(rt.alloc(), line, t.as_slice(), 1) {
         Ok(Line::Stmt(stmt)) => assert!(rt; is_addition(stmt)),
         _ => panic!(rt; "no statement"),
     }
@@ -433,7 +433,7 @@ fn calls_are_read(rt: HostRuntime) -> Result<(), LexRefusal> {
         let line = parts[0];
         assert!(rt; line.len() < 1000);
         let t = tokens(rt.alloc(), line, 1)?;
-        match body_line(rt.alloc(), line, &t, 1) {
+        match body_line(rt.alloc(), line, t.as_slice(), 1) {
             Ok(Line::Stmt(stmt)) => assert!(rt; is_call(&stmt, parts)),
             _ => panic!(rt; "no call"),
         }
@@ -475,13 +475,13 @@ fn has_arguments(stmt: &Stmt) -> bool {
 fn parts_of_calls_may_be_absent(rt: HostRuntime) -> Result<(), LexRefusal> {
     let line = b"call void @k()".as_slice();
     let t = tokens(rt.alloc(), line, 1)?;
-    match body_line(rt.alloc(), line, &t, 1) {
+    match body_line(rt.alloc(), line, t.as_slice(), 1) {
         Ok(Line::Stmt(stmt)) => assert!(rt; is_bare_call(&stmt)),
         _ => panic!(rt; "no call"),
     }
     let line = b"call void @k(i8 %a, ptr nonnull @g, i32 zeroext -1)".as_slice();
     let t = tokens(rt.alloc(), line, 1)?;
-    match body_line(rt.alloc(), line, &t, 1) {
+    match body_line(rt.alloc(), line, t.as_slice(), 1) {
         Ok(Line::Stmt(stmt)) => assert!(rt; has_arguments(&stmt)),
         _ => panic!(rt; "no call"),
     }
@@ -500,7 +500,7 @@ fn is_odd_layout(kept: &Kept) -> bool {
 fn a_layout_is_read(rt: HostRuntime) -> Result<(), LexRefusal> {
     let line = b"target datalayout = \"E-p:32:32\"  ".as_slice();
     let t = tokens(rt.alloc(), line, 1)?;
-    match module_line(rt.alloc(), line, &t, 1) {
+    match module_line(rt.alloc(), line, t.as_slice(), 1) {
         Ok(Line::Kept(kept)) => assert!(rt; is_odd_layout(&kept)),
         _ => panic!(rt; "not kept"),
     }
@@ -532,7 +532,7 @@ fn a_header_is_read(rt: HostRuntime) -> Result<(), LexRefusal> {
     let line =
         b"define dso_local <4 x i32> @f(ptr noalias noundef range(i32 0, 5) %r, i32 \"a\"=\"b\", ptr captures(none, noalias) %2) local_unnamed_addr #0 {".as_slice();
     let t = tokens(rt.alloc(), line, 1)?;
-    match module_line(rt.alloc(), line, &t, 1) {
+    match module_line(rt.alloc(), line, t.as_slice(), 1) {
         Ok(Line::Define { name, head }) => match head {
             Some(head) => assert!(rt;
                 name.is_some() && has_texts(&head) && has_params(&head.params)

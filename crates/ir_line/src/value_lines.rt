@@ -21,6 +21,7 @@ use crate::{Arg, Args, Line, Stmt};
 use ir_lex::Token;
 use ir_types::{Bytes, Elem, Names, Op, Ty};
 use std::alloc::Global;
+use vx_list::Seq;
 use vx_num::{BinOp, CastOp, Flags, Pred};
 
 /// The form, where the line ends.
@@ -35,34 +36,29 @@ pub(crate) fn finish(line: &[u8], tokens: &[Token], form: Line) -> Result<Line, 
 }
 
 /// An instruction with a result and one operand.
-fn gives_one(alloc: Global, name: Bytes, ty: Ty, op: Op, a: Arg) -> Result<Line, Stop>
-    ensures { Gives (λ x. x) result (Some (forms.gives name ty op (a ∷ []))) }
+fn gives_one(alloc: Global, name: Bytes, ty: Ty, op: Op, a: Arg) -> Line
+    ensures { result ≡ forms.gives name ty op (a ∷ []) }
 {
-    let mut args = Args::new(alloc);
-    args.push(a)?;
-    Ok(Line::Stmt(Stmt {
+    Line::Stmt(Stmt {
         result: Some(name),
         ty,
         op,
-        args,
+        args: Args::one(a),
         labels: Names::new(alloc),
-    }))
+    })
 }
 
 /// An instruction with a result and two operands.
-fn gives_two(alloc: Global, name: Bytes, ty: Ty, op: Op, a: Arg, b: Arg) -> Result<Line, Stop>
-    ensures { Gives (λ x. x) result (Some (forms.gives name ty op (a ∷ b ∷ []))) }
+fn gives_two(alloc: Global, name: Bytes, ty: Ty, op: Op, a: Arg, b: Arg) -> Line
+    ensures { result ≡ forms.gives name ty op (a ∷ b ∷ []) }
 {
-    let mut args = Args::new(alloc);
-    args.push(a)?;
-    args.push(b)?;
-    Ok(Line::Stmt(Stmt {
+    Line::Stmt(Stmt {
         result: Some(name),
         ty,
         op,
-        args,
+        args: Args::two(a, b),
         labels: Names::new(alloc),
-    }))
+    })
 }
 
 /// An instruction with a result and three operands.
@@ -77,7 +73,7 @@ fn gives_three(
 ) -> Result<Line, Stop>
     ensures { Gives (λ x. x) result (Some (forms.gives name ty op (a ∷ b ∷ c ∷ []))) }
 {
-    let mut args = Args::new(alloc);
+    let mut args = Seq::with_capacity(alloc, 3)?;
     args.push(a)?;
     args.push(b)?;
     args.push(c)?;
@@ -85,7 +81,7 @@ fn gives_three(
         result: Some(name),
         ty,
         op,
-        args,
+        args: Args::from_list(args),
         labels: Names::new(alloc),
     }))
 }
@@ -115,7 +111,7 @@ fn flags_of(line: &[u8], tokens: &[Token]) -> Flags
 }
 
 /// A binary operation.
-#[tactic(auto, unfolding(crate::specs::Forms::binary))]
+#[tactic(auto, using(crate::proofs::LineEnds::goes_on), unfolding(crate::specs::Forms::binary))]
 fn binary(
     alloc: Global,
     name: Bytes,
@@ -130,15 +126,17 @@ fn binary(
     let (a, rest) = operand(alloc, ty, line, rest)?;
     let (b, rest) = other(alloc, ty, line, rest)?;
     let flags = flags_of(line, found);
-    let form = gives_two(
+    let [] = rest else {
+        return Err(Stop::NotALine);
+    };
+    Ok(gives_two(
         alloc,
         name,
         ty,
         Op::Bin { op, flags },
         Arg { ty, opd: a },
         Arg { ty, opd: b },
-    )?;
-    finish(line, rest, form)
+    ))
 }
 
 /// What a comparison asks.
@@ -160,7 +158,7 @@ fn truth_of(ty: Ty) -> Ty
 }
 
 /// A comparison.
-#[tactic(auto, unfolding(crate::specs::Forms::compare))]
+#[tactic(auto, using(crate::proofs::LineEnds::goes_on), unfolding(crate::specs::Forms::compare))]
 fn compare(alloc: Global, name: Bytes, line: &[u8], tokens: &[Token]) -> Result<Line, Stop>
     ensures { Gives (λ x. x) result (read forms.line_of (forms.compare name) (words line.now tokens.now)) }
 {
@@ -169,15 +167,17 @@ fn compare(alloc: Global, name: Bytes, line: &[u8], tokens: &[Token]) -> Result<
     let (ty, rest) = kind(Kind::Number, line, rest)?;
     let (a, rest) = operand(alloc, ty, line, rest)?;
     let (b, rest) = other(alloc, ty, line, rest)?;
-    let form = gives_two(
+    let [] = rest else {
+        return Err(Stop::NotALine);
+    };
+    Ok(gives_two(
         alloc,
         name,
         truth_of(ty),
         Op::Icmp { pred },
         Arg { ty, opd: a },
         Arg { ty, opd: b },
-    )?;
-    finish(line, rest, form)
+    ))
 }
 
 /// The flags that a cast may have.
@@ -202,7 +202,7 @@ fn cast_kind(op: CastOp, ty: Ty) -> Kind
 }
 
 /// A cast.
-#[tactic(auto, unfolding(crate::specs::Forms::convert))]
+#[tactic(auto, using(crate::proofs::LineEnds::goes_on), unfolding(crate::specs::Forms::convert))]
 fn convert(
     alloc: Global,
     name: Bytes,
@@ -217,20 +217,24 @@ fn convert(
     let rest = expect(line, rest, b"to")?;
     let (ty, rest) = kind(cast_kind(op, a.ty), line, rest)?;
     let nneg = has(line, found, b"nneg");
-    let form = gives_one(alloc, name, ty, Op::Cast { op, nneg }, a)?;
-    finish(line, rest, form)
+    let [] = rest else {
+        return Err(Stop::NotALine);
+    };
+    Ok(gives_one(alloc, name, ty, Op::Cast { op, nneg }, a))
 }
 
 /// A choice of two values.
-#[tactic(auto, unfolding(crate::specs::Forms::select))]
+#[tactic(auto, using(crate::proofs::LineEnds::goes_on), unfolding(crate::specs::Forms::select))]
 fn select(alloc: Global, name: Bytes, line: &[u8], tokens: &[Token]) -> Result<Line, Stop>
     ensures { Gives (λ x. x) result (read forms.line_of (forms.select name) (words line.now tokens.now)) }
 {
     let (condition, rest) = typed(alloc, Kind::Choice, line, tokens)?;
     let (a, rest) = also(alloc, Kind::ChosenBy(condition.ty), line, rest)?;
     let (b, rest) = also(alloc, Kind::Same(a.ty), line, rest)?;
-    let form = gives_three(alloc, name, a.ty, Op::Select, condition, a, b)?;
-    finish(line, rest, form)
+    let [] = rest else {
+        return Err(Stop::NotALine);
+    };
+    gives_three(alloc, name, a.ty, Op::Select, condition, a, b)
 }
 
 /// A lane of a vector.
@@ -241,32 +245,38 @@ fn extract(alloc: Global, name: Bytes, line: &[u8], tokens: &[Token]) -> Result<
     let (row, rest) = typed(alloc, Kind::Vector, line, tokens)?;
     let (index, rest) = also(alloc, Kind::Integer, line, rest)?;
     let ty = Ty::Int(bits_of(row.ty));
-    let form = gives_two(alloc, name, ty, Op::Extract, row, index)?;
-    finish(line, rest, form)
+    let [] = rest else {
+        return Err(Stop::NotALine);
+    };
+    Ok(gives_two(alloc, name, ty, Op::Extract, row, index))
 }
 
 /// A vector with another lane.
-#[tactic(auto, unfolding(crate::specs::Forms::insert))]
+#[tactic(auto, using(crate::proofs::LineEnds::goes_on), unfolding(crate::specs::Forms::insert))]
 fn insert(alloc: Global, name: Bytes, line: &[u8], tokens: &[Token]) -> Result<Line, Stop>
     ensures { Gives (λ x. x) result (read forms.line_of (forms.insert name) (words line.now tokens.now)) }
 {
     let (row, rest) = typed(alloc, Kind::Vector, line, tokens)?;
     let (lane, rest) = also(alloc, Kind::LaneOf(row.ty), line, rest)?;
     let (index, rest) = also(alloc, Kind::Integer, line, rest)?;
-    let form = gives_three(alloc, name, row.ty, Op::Insert, row, lane, index)?;
-    finish(line, rest, form)
+    let [] = rest else {
+        return Err(Stop::NotALine);
+    };
+    gives_three(alloc, name, row.ty, Op::Insert, row, lane, index)
 }
 
 /// Lanes of two vectors.
-#[tactic(auto, unfolding(crate::specs::Forms::shuffle))]
+#[tactic(auto, using(crate::proofs::LineEnds::goes_on), unfolding(crate::specs::Forms::shuffle))]
 fn shuffle(alloc: Global, name: Bytes, line: &[u8], tokens: &[Token]) -> Result<Line, Stop>
     ensures { Gives (λ x. x) result (read forms.line_of (forms.shuffle name) (words line.now tokens.now)) }
 {
     let (a, rest) = typed(alloc, Kind::Vector, line, tokens)?;
     let (b, rest) = also(alloc, Kind::Same(a.ty), line, rest)?;
     let ((ty, mask), rest) = mask(alloc, a.ty, line, rest)?;
-    let form = gives_two(alloc, name, ty, Op::Shuffle { mask }, a, b)?;
-    finish(line, rest, form)
+    let [] = rest else {
+        return Err(Stop::NotALine);
+    };
+    Ok(gives_two(alloc, name, ty, Op::Shuffle { mask }, a, b))
 }
 
 /// The end of a `getelementptr`: into an array there may be another index.
@@ -286,15 +296,17 @@ fn stepped(
     let inbounds = has(line, found, b"inbounds");
     match elem {
         Elem::One(_) => {
-            let form = gives_two(
+            let [] = tokens else {
+                return Err(Stop::NotALine);
+            };
+            Ok(gives_two(
                 alloc,
                 name,
                 Ty::Ptr,
                 Op::Gep { elem, inbounds },
                 pointer,
                 index,
-            )?;
-            finish(line, tokens, form)
+            ))
         }
         Elem::Array { n, w } => into_array(
             alloc, name, inbounds, n, w, pointer, index, line, tokens,
@@ -322,12 +334,16 @@ fn into_array(
     };
     match also(alloc, Kind::Integer, line, tokens) {
         Ok((second, rest)) => {
-            let form = gives_three(alloc, name, Ty::Ptr, op, pointer, index, second)?;
-            finish(line, rest, form)
+            let [] = rest else {
+                return Err(Stop::NotALine);
+            };
+            gives_three(alloc, name, Ty::Ptr, op, pointer, index, second)
         }
         Err(Stop::NotALine) => {
-            let form = gives_two(alloc, name, Ty::Ptr, op, pointer, index)?;
-            finish(line, tokens, form)
+            let [] = tokens else {
+                return Err(Stop::NotALine);
+            };
+            Ok(gives_two(alloc, name, Ty::Ptr, op, pointer, index))
         }
         Err(Stop::OutOfMemory) => Err(Stop::OutOfMemory),
     }
@@ -353,11 +369,13 @@ fn load(alloc: Global, name: Bytes, line: &[u8], tokens: &[Token]) -> Result<Lin
     let (ty, rest) = kind(Kind::Stored, line, tokens)?;
     let (pointer, rest) = also(alloc, Kind::Pointer, line, rest)?;
     let (align, rest) = aligned(line, rest)?;
+    let [] = rest else {
+        return Err(Stop::NotALine);
+    };
     let op = Op::Load {
         align: align.unwrap_or(1),
     };
-    let form = gives_one(alloc, name, ty, op, pointer)?;
-    finish(line, rest, form)
+    Ok(gives_one(alloc, name, ty, op, pointer))
 }
 
 /// A new object.
@@ -371,7 +389,7 @@ fn allocate(alloc: Global, name: Bytes, line: &[u8], tokens: &[Token]) -> Result
         result: Some(name),
         ty: Ty::Ptr,
         op: Op::Alloca { elem, align },
-        args: Args::new(alloc),
+        args: Args::none(),
         labels: Names::new(alloc),
     };
     finish(line, rest, Line::Stmt(stmt))
@@ -393,7 +411,7 @@ fn phi(alloc: Global, name: Bytes, line: &[u8], tokens: &[Token]) -> Result<Line
         result: Some(name),
         ty,
         op: Op::Phi { blocks },
-        args,
+        args: Args::from_list(args),
         labels,
     };
     finish(line, rest, Line::Stmt(stmt))

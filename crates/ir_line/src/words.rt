@@ -73,8 +73,15 @@ fn is_ascii(word: &[u8]) -> bool
     }
 }
 
-/// Whether all tokens are.
+/// Whether all tokens are. Where all bytes of the line are, which most lines say at once, none is looked at.
 pub(crate) fn all_ascii(line: &[u8], tokens: &[Token]) -> bool
+    ensures { result ≡ list_all front.is_ascii (words line.now tokens.now) }
+{
+    line.is_ascii() || each_ascii(line, tokens)
+}
+
+/// Whether each token is.
+fn each_ascii(line: &[u8], tokens: &[Token]) -> bool
     ensures { result ≡ list_all front.is_ascii (words line.now tokens.now) }
 {
     let mut rest = tokens;

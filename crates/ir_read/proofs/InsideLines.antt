@@ -5,7 +5,6 @@ use Rattle.ir_lex.specs.declared.list.Token.{Token}
 use Rattle.ir_lex.specs.Scan.{fault_of, cut}
 use Rattle.ir_lex.specs.Tokens.{Lexed}
 use Rattle.ir_lex.specs.Words.{words}
-use Rattle.ir_lex.proofs.Laws.{lexed_is}
 use Rattle.ir_line.specs.declared.line.Line.{Line}
 use Rattle.ir_line.specs.declared.line.Line.TheVariants as line
 use Rattle.ir_line.specs.Forms.{Form, Label, line_of}
@@ -52,7 +51,7 @@ nor_false : (b : Bool) → b || false ≡ b
 nor_false true = refl
 nor_false false = refl
 
-nothing_more : (o : Outlook) → record { names = o.names; other_pointers = o.other_pointers || false } ≡ o
+pub nothing_more : (o : Outlook) → record { names = o.names; other_pointers = o.other_pointers || false } ≡ o
 nothing_more o = rw (nor_false o.other_pointers) refl
 
 unseen : (o : Outlook) (form : Line) → IsPlain form → with_line o (Some form) ≡ o

@@ -1,8 +1,11 @@
 -- Lemmas that nobody need believe.
 pub mod Answering
+pub mod EmptyLines
+pub mod Feeds
 pub mod InsideLines
 pub mod ItemsRead
 pub mod LineForms
+pub mod LoneBraces
 pub mod Named
 pub mod Placing
 pub mod ReadBodies

@@ -6,7 +6,7 @@
 --
 -- Empty lines, which are those without a token, are dropped, also from the bodies of functions. `Examples` has small texts and what
 -- they are.
-use Rattle.std.specs.Prelude.{ℕ, ◌+◌, Bool, cond, Option, None, Some, Result, Ok, Err, List, [], ◌∷◌, ◌++◌}
+use Rattle.std.specs.Prelude.{ℕ, ◌+◌, Bool, true, false, cond, Option, None, Some, Result, Ok, Err, List, [], ◌∷◌, ◌++◌}
 use Rattle.ir_line.specs.declared.line.Line.{Line}
 use Rattle.ir_line.specs.declared.line.Line.TheVariants as line
 use Rattle.ir_line.specs.declared.head.Head.{Head}
@@ -54,6 +54,11 @@ abbrev pub placed : Done → Open → ℕ → Line → Position → Progress
 placed done o n line.Empty p = going_on done o
 placed done o n line.Close p = between (closed done o)
 placed done o n form p = going_on done (with_line o n form p)
+
+-- with the open function as a line left it, where that may be the brace that closes it
+abbrev pub taken : Done → Open → Bool → Progress
+taken done o true = between (closed done o)
+taken done o false = going_on done o
 
 -- the line n of this form, inside the open function
 unfoldable pub line_inside : Outlook → ℕ → Done → Open → Line → Result Progress ReadRefusal

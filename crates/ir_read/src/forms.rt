@@ -1,16 +1,16 @@
 //! The form of one line.
 //!
-//! `form_by` reads a line by its tokens, `form_in` a line alone. A line without a form is no failure; want of memory is the only one.
+//! The entry point is `form_in`, for lines without a lexical fault. A line without a form is no failure; want of memory is the only
+//! one. The list of tokens is the caller's, so that it takes memory for the longest line alone.
 
-ghost use Rattle.std.specs.Prelude.{◌≡◌, ◌+◌, ◌<◌, ◌^◌, length, IfOk};
+ghost use Rattle.std.specs.Prelude.{◌≡◌, None, ◌+◌, ◌<◌, ◌^◌, length, IfOk};
+ghost use Rattle.ir_lex.specs.Scan.{fault_of};
 ghost use Rattle.ir_lex.specs.Tokens.{Lexed};
-ghost use Rattle.ir_lex.specs.Words.{words};
-ghost use Rattle.ir_line.specs.Body as body;
 ghost use Rattle.ir_line.specs.Body.{read_body};
 ghost use Rattle.ir_line.specs.Outside.{read_outside};
 ghost use Rattle.ir_read.specs.Forms as forms;
 
-use ir_lex::{LexRefusal, Tokens, text, tokens};
+use ir_lex::{Token, cut_into};
 use ir_line::{Line, LineRefusal, body_line, module_line};
 use std::alloc::{AllocError, Global};
 
@@ -18,7 +18,7 @@ use std::alloc::{AllocError, Global};
 fn form_inside(
     alloc: Global,
     line: &[u8],
-    t: &Tokens,
+    t: &[Token],
     number: u32,
 ) -> Result<Option<Line>, AllocError>
     requires { Lexed line.now t.now }
@@ -35,7 +35,7 @@ fn form_inside(
 fn form_outside(
     alloc: Global,
     line: &[u8],
-    t: &Tokens,
+    t: &[Token],
     number: u32,
 ) -> Result<Option<Line>, AllocError>
     requires { Lexed line.now t.now }
@@ -54,7 +54,7 @@ pub(crate) fn form_by(
     alloc: Global,
     inside: bool,
     line: &[u8],
-    t: &Tokens,
+    t: &[Token],
     number: u32,
 ) -> Result<Option<Line>, AllocError>
     requires { Lexed line.now t.now }
@@ -67,34 +67,23 @@ pub(crate) fn form_by(
     }
 }
 
-/// The form of a line; one with a lexical fault has none.
+/// The form of a line without a lexical fault. The list is for its tokens, and what was in it is gone.
 pub(crate) fn form_in(
     alloc: Global,
+    tokens: &mut Vec<Token>,
     inside: bool,
     line: &[u8],
     number: u32,
 ) -> Result<Option<Line>, AllocError>
-    requires { length line.now + 1 < 2 ^ 32 }
+    requires short { length line.now + 1 < 2 ^ 32 }
+    requires sound { fault_of line.now ≡ None }
     ensures { IfOk result (λ form. form ≡ forms.form_in inside line.now) }
 {
-    match tokens(alloc, line, number) {
-        Ok(t) => form_by(alloc, inside, line, &t, number),
-        Err(LexRefusal::Lex { .. }) => Ok(None),
-        Err(LexRefusal::OutOfMemory) => Err(AllocError),
-    }
+    cut_into(tokens, line)?;
+    form_by(alloc, inside, line, tokens.as_slice(), number)
 }
 
-/// Whether a line with these tokens is a brace alone.
-pub(crate) fn is_brace(line: &[u8], t: &Tokens) -> bool
-    ensures { result ≡ body.is_brace (words line.now t.now) }
-{
-    match t.as_slice() {
-        [token] => text(line, *token) == b"}".as_slice(),
-        _ => false,
-    }
-}
-
-/// Whether the line behind one of this form stands in a function.
+/// Whether the line after one of this form stands in a function.
 pub(crate) fn inside_after(inside: bool, form: &Option<Line>) -> bool
     ensures { result ≡ forms.inside_after inside form.now }
 {

@@ -4,13 +4,15 @@
 //! the profile or misplaced, or a limit that is passed, in this order; or for want of memory. Names are not looked up.
 //!
 //! The text is gone through twice. The first pass finds lexical faults and takes the names that no operand may be, which may stand
-//! anywhere; the second judges line by line, with a small state of the function that is open. The time is near linear.
+//! anywhere, and looks no further into the lines of functions; the second cuts and judges each line, with a small state of the
+//! function that is open. The time is near linear.
 #![tactic(auto)]
 
 ghost use Rattle.std.specs.Prelude.{◌+◌, ◌<◌, ◌^◌, length};
 ghost use Rattle.ir_read.specs.Answers.{Gives};
 ghost use Rattle.ir_read.specs.Draft.{draft_of};
 
+mod braces;
 mod forms;
 mod function;
 mod laws;

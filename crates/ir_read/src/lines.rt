@@ -6,7 +6,9 @@
 ghost use Rattle.std.specs.Prelude.{◌≡◌, ◌+◌, ◌-◌, ◌<◌, ◌≤◌, ◌∷◌, length};
 ghost use Rattle.ir_read.specs.Lines as lines;
 
-/// The first line of a text that is not empty, and the text behind it.
+use memchr::memchr;
+
+/// The first line of a text that is not empty, and the text after it.
 pub(crate) fn first_line(bytes: &[u8]) -> (&[u8], &[u8])
     requires { 0 < length bytes.now }
     ensures lines { lines.lines_of bytes.now ≡ result.0.now ∷ lines.lines_of result.1.now }
@@ -26,14 +28,10 @@ fn line_len(bytes: &[u8]) -> usize
     ensures value { result ≡ lines.line_len bytes.now }
     ensures within { result ≤ length bytes.now }
 {
-    let mut count = 0;
-    for b in bytes {
-        if *b == b'\n' {
-            break;
-        }
-        count += 1;
+    match memchr(b'\n', bytes) {
+        Some(at) => at,
+        None => bytes.len(),
     }
-    count
 }
 
 /// A line without the carriage return at its end.

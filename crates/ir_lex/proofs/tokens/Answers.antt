@@ -1,5 +1,5 @@
 -- The refusal comes exactly at the first fault.
-use Rattle.std.proofs.Common.{sym, refl, subst, arith}
+use Rattle.std.proofs.Common.{sym, ◌∙◌, refl, subst, arith}
 use Rattle.ir_lex.specs.Tokens.{Lexed}
 use Rattle.ir_lex.proofs.Classes.{clash}
 use Rattle.ir_lex.proofs.Faulty.{fault_absent, found_first, first_once}
@@ -22,4 +22,4 @@ pub returns-clause-refused : goal.returns-clause-refused
 returns-clause-refused c = λ k first. clash _ (fault_absent _ _ _ (sym c.in_default.ensures) k) first.fault
 
 pub returns-clause-lexed : goal.returns-clause-lexed
-returns-clause-lexed c = subst (Lexed c.args.line.now) (sym c.in_ok-cut.ensures) (lexed_by_cut _ (sym c.in_default.ensures))
+returns-clause-lexed c = subst (Lexed c.args.line.now) (sym (c.from_vec.ensures ∙ c.in_ok-cut.ensures)) (lexed_by_cut _ (sym c.in_default.ensures))

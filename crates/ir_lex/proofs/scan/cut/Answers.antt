@@ -7,4 +7,4 @@ use Rattle.ir_lex.proofs.scan.cut.Goals as goal
 pub each-preserved : goal.each-preserved
 each-preserved c =
     cut_next _ _ _ _ _ _ c.each.rest.now _ _ c.in-len1-up.len_at_least (take_rest _ 1) (sym c.is_blank.ensures ∙ c.if-is_blank.false) c.if-byte-eq59.false
-    c.more_len-more.ensures.value c.more_len-more.ensures.within c.split_at.ensures.back c.in_ok-push.ensures.ok c.each.invariant
+    c.more_len-more.ensures.value c.more_len-more.ensures.within c.split_at.ensures.back c.in_ok-push.ensures.items c.each.invariant

@@ -1,6 +1,7 @@
 -- What is read so far, with the lines that are left, is the whole.
-use Rattle.std.proofs.Common.{◌≡◌, ◌+◌, ◌≤◌, length}
+use Rattle.std.proofs.Common.{◌≡◌, ◌+◌, ◌≤◌, length, None}
 use Rattle.ir_read.specs.Lines.{lines_of}
+use Rattle.ir_read.specs.Faults.{first_fault}
 use Rattle.ir_read.specs.Forms.{forms_from, forms_of}
 use Rattle.ir_read.specs.Draft.{read_from, between, nothing_done}
 use Rattle.ir_read.proofs.reader.judge.Given as goal
@@ -9,6 +10,7 @@ abbrev pub invariant-loop-rest : goal.invariant-loop-rest
 invariant-loop-rest l = record {
   within : length l.rest ≤ length l.bytes;
   few : l.number + length l.rest ≤ 1 + length l.bytes;
+  sound : first_fault l.number (lines_of l.rest) ≡ None;
   whole : read_from l.known l.number l.done (forms_from l.inside (lines_of l.rest)) ≡ read_from l.known 1 (between nothing_done) (forms_of (lines_of l.bytes));
 }
 
