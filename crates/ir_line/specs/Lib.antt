@@ -1,5 +1,6 @@
 -- What a line spells.
 pub mod Answers
+pub mod Args
 pub mod Body
 pub mod Calls
 pub mod Forms

@@ -34,33 +34,20 @@ fn store(alloc: Global, line: &[u8], tokens: &[Token]) -> Result<Line, Stop>
     let [] = rest else {
         return Err(Stop::NotALine);
     };
-    stored(alloc, value, pointer, align.unwrap_or(1))
+    Ok(stored(alloc, value, pointer, align.unwrap_or(1)))
 }
 
 /// The form of a store.
-fn stored(alloc: Global, value: Arg, pointer: Arg, align: u64) -> Result<Line, Stop>
-    ensures { Gives (λ x. x) result (Some (forms.does value.ty (ops.Store align) (value ∷ pointer ∷ []) [])) }
+fn stored(alloc: Global, value: Arg, pointer: Arg, align: u64) -> Line
+    ensures { result ≡ forms.does value.ty (ops.Store align) (value ∷ pointer ∷ []) [] }
 {
-    let ty = value.ty;
-    let mut args = Args::new(alloc);
-    args.push(value)?;
-    args.push(pointer)?;
-    Ok(Line::Stmt(Stmt {
+    Line::Stmt(Stmt {
         result: None,
-        ty,
+        ty: value.ty,
         op: Op::Store { align },
-        args,
+        args: Args::two(value, pointer),
         labels: Names::new(alloc),
-    }))
-}
-
-/// One operand.
-fn one_arg(alloc: Global, arg: Arg) -> Result<Args, AllocError>
-    ensures { IfOk result (λ x. x ≡ arg ∷ []) }
-{
-    let mut args = Args::new(alloc);
-    args.push(arg)?;
-    Ok(args)
+    })
 }
 
 /// One block.
@@ -94,7 +81,7 @@ fn return_value(alloc: Global, line: &[u8], tokens: &[Token]) -> Result<Line, St
     finish(
         line,
         rest,
-        does(Op::Ret, one_arg(alloc, value)?, Names::new(alloc)),
+        does(Op::Ret, Args::one(value), Names::new(alloc)),
     )
 }
 
@@ -104,11 +91,7 @@ fn returns(alloc: Global, line: &[u8], tokens: &[Token]) -> Result<Line, Stop>
     ensures { Gives (λ x. x) result (read forms.line_of forms.returns (words line.now tokens.now)) }
 {
     match expect(line, tokens, b"void") {
-        Ok(rest) => finish(
-            line,
-            rest,
-            does(Op::Ret, Args::new(alloc), Names::new(alloc)),
-        ),
+        Ok(rest) => finish(line, rest, does(Op::Ret, Args::none(), Names::new(alloc))),
         Err(Stop::NotALine) => return_value(alloc, line, tokens),
         Err(Stop::OutOfMemory) => Err(Stop::OutOfMemory),
     }
@@ -122,7 +105,7 @@ fn branch(alloc: Global, line: &[u8], tokens: &[Token]) -> Result<Line, Stop>
     let (condition, rest) = typed(alloc, Kind::Bit, line, tokens)?;
     let (first, rest) = also_target(alloc, line, rest)?;
     let (second, rest) = also_target(alloc, line, rest)?;
-    let args = one_arg(alloc, condition)?;
+    let args = Args::one(condition);
     let mut labels = one_label(alloc, first)?;
     labels.push(second)?;
     finish(line, rest, does(Op::CondBr { yes: 0, no: 1 }, args, labels))
@@ -136,7 +119,7 @@ fn jump(alloc: Global, line: &[u8], tokens: &[Token]) -> Result<Line, Stop>
     match target(alloc, line, tokens) {
         Ok((block, rest)) => {
             let labels = one_label(alloc, block)?;
-            finish(line, rest, does(Op::Br { to: 0 }, Args::new(alloc), labels))
+            finish(line, rest, does(Op::Br { to: 0 }, Args::none(), labels))
         }
         Err(Stop::NotALine) => branch(alloc, line, tokens),
         Err(Stop::OutOfMemory) => Err(Stop::OutOfMemory),
@@ -151,7 +134,7 @@ fn switch(alloc: Global, line: &[u8], tokens: &[Token]) -> Result<Line, Stop>
     let (value, rest) = typed(alloc, Kind::Integer, line, tokens)?;
     let (block, rest) = also_target(alloc, line, rest)?;
     let rest = expect(line, rest, b"[")?;
-    let args = one_arg(alloc, value)?;
+    let args = Args::one(value);
     let labels = one_label(alloc, block)?;
     let op = Op::Switch {
         other: 0,
@@ -174,7 +157,7 @@ fn by_act(alloc: Global, act: Act, line: &[u8], tokens: &[Token]) -> Result<Line
         Act::Unreachable => finish(
             line,
             tokens,
-            does(Op::Unreachable, Args::new(alloc), Names::new(alloc)),
+            does(Op::Unreachable, Args::none(), Names::new(alloc)),
         ),
     }
 }

@@ -22,13 +22,13 @@ use crate::{Arg, Args, Line, Stmt, Written};
 use ir_lex::{Token, text};
 use ir_types::{Bytes, CallSite, Names, Op, Texts, Ty};
 use std::alloc::Global;
-use vx_list::Boxed;
+use vx_list::{Boxed, Seq};
 
 /// The arguments of a call.
 #[derive(Debug, Drop)]
 pub(crate) struct Arguments {
     /// The operands behind their types.
-    pub args: Args,
+    pub args: Seq<Arg>,
     /// The attributes of each.
     pub attrs: Texts,
 }
@@ -184,7 +184,7 @@ fn arguments_within<'a>(
     ensures { Gives (λ x. (x.0, x.1.now)) result (calls.arguments_within tokens.now line.now tokens.now) }
 {
     let mut found = Arguments {
-        args: Args::new(alloc),
+        args: Seq::new(alloc),
         attrs: Texts::new(alloc),
     };
     let mut rest = tokens;
@@ -218,7 +218,7 @@ fn arguments_at<'a>(
     }
     if is_first(line, skip(tokens, 1), b")") {
         let none = Arguments {
-            args: Args::new(alloc),
+            args: Seq::new(alloc),
             attrs: Texts::new(alloc),
         };
         return Ok((none, skip(tokens, 2)));
@@ -286,7 +286,7 @@ fn called(
         result: name,
         ty,
         op: Op::Call(Boxed::new(alloc, site)?),
-        args,
+        args: Args::from_list(args),
         labels: Names::new(alloc),
     }))
 }

@@ -8,6 +8,7 @@
 #![tactic(auto)]
 
 mod act_lines;
+mod args;
 mod body;
 mod calls;
 mod draft;
@@ -33,6 +34,7 @@ mod values;
 mod words;
 mod written;
 
+pub use args::Args;
 pub use body::body_line;
 pub use draft::{Body, Draft, DraftItem, DraftItems, Numbered};
 pub use head::Head;
@@ -42,7 +44,7 @@ pub use line::Line;
 pub use outside::module_line;
 pub use refusal::LineRefusal;
 pub use stmt::Stmt;
-pub use written::{Arg, Args, Written};
+pub use written::{Arg, Written};
 
 #[cfg(test)]
 mod tests;

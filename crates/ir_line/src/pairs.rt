@@ -7,19 +7,20 @@ ghost use Rattle.ir_lex.specs.Words.{words};
 ghost use Rattle.ir_line.specs.Words.{Gives};
 ghost use Rattle.ir_line.specs.Reading as reading;
 
+use crate::Arg;
 use crate::operands::{local, operand};
 use crate::refusal::Stop;
 use crate::words::{behind, expect, is_first};
-use crate::{Arg, Args};
 use ir_lex::Token;
 use ir_types::{Names, Numbers, Ty};
 use std::alloc::Global;
+use vx_list::Seq;
 
 /// Values with the blocks that they come from.
 #[derive(Debug, Drop)]
 pub(crate) struct Incoming {
     /// The values, each behind the type of the `phi`.
-    pub args: Args,
+    pub args: Seq<Arg>,
     /// The names of the blocks, one a value.
     pub labels: Names,
     /// The places of the blocks in `labels`, one a value.
@@ -60,7 +61,7 @@ pub(crate) fn pairs<'a>(
     ensures { Gives (λ x. (x.0, words line.now x.1.now)) result (reading.pairs_at ty (words line.now tokens.now)) }
 {
     let mut found = Incoming {
-        args: Args::new(alloc),
+        args: Seq::new(alloc),
         labels: Names::new(alloc),
         blocks: Numbers::new(alloc),
     };

@@ -21,6 +21,7 @@ use crate::{Arg, Args, Line, Stmt};
 use ir_lex::Token;
 use ir_types::{Bytes, Elem, Names, Op, Ty};
 use std::alloc::Global;
+use vx_list::Seq;
 use vx_num::{BinOp, CastOp, Flags, Pred};
 
 /// The form, where the line ends.
@@ -35,34 +36,29 @@ pub(crate) fn finish(line: &[u8], tokens: &[Token], form: Line) -> Result<Line, 
 }
 
 /// An instruction with a result and one operand.
-fn gives_one(alloc: Global, name: Bytes, ty: Ty, op: Op, a: Arg) -> Result<Line, Stop>
-    ensures { Gives (λ x. x) result (Some (forms.gives name ty op (a ∷ []))) }
+fn gives_one(alloc: Global, name: Bytes, ty: Ty, op: Op, a: Arg) -> Line
+    ensures { result ≡ forms.gives name ty op (a ∷ []) }
 {
-    let mut args = Args::new(alloc);
-    args.push(a)?;
-    Ok(Line::Stmt(Stmt {
+    Line::Stmt(Stmt {
         result: Some(name),
         ty,
         op,
-        args,
+        args: Args::one(a),
         labels: Names::new(alloc),
-    }))
+    })
 }
 
 /// An instruction with a result and two operands.
-fn gives_two(alloc: Global, name: Bytes, ty: Ty, op: Op, a: Arg, b: Arg) -> Result<Line, Stop>
-    ensures { Gives (λ x. x) result (Some (forms.gives name ty op (a ∷ b ∷ []))) }
+fn gives_two(alloc: Global, name: Bytes, ty: Ty, op: Op, a: Arg, b: Arg) -> Line
+    ensures { result ≡ forms.gives name ty op (a ∷ b ∷ []) }
 {
-    let mut args = Args::new(alloc);
-    args.push(a)?;
-    args.push(b)?;
-    Ok(Line::Stmt(Stmt {
+    Line::Stmt(Stmt {
         result: Some(name),
         ty,
         op,
-        args,
+        args: Args::two(a, b),
         labels: Names::new(alloc),
-    }))
+    })
 }
 
 /// An instruction with a result and three operands.
@@ -77,7 +73,7 @@ fn gives_three(
 ) -> Result<Line, Stop>
     ensures { Gives (λ x. x) result (Some (forms.gives name ty op (a ∷ b ∷ c ∷ []))) }
 {
-    let mut args = Args::new(alloc);
+    let mut args = Seq::with_capacity(alloc, 3)?;
     args.push(a)?;
     args.push(b)?;
     args.push(c)?;
@@ -85,7 +81,7 @@ fn gives_three(
         result: Some(name),
         ty,
         op,
-        args,
+        args: Args::from_list(args),
         labels: Names::new(alloc),
     }))
 }
@@ -133,14 +129,14 @@ fn binary(
     let [] = rest else {
         return Err(Stop::NotALine);
     };
-    gives_two(
+    Ok(gives_two(
         alloc,
         name,
         ty,
         Op::Bin { op, flags },
         Arg { ty, opd: a },
         Arg { ty, opd: b },
-    )
+    ))
 }
 
 /// What a comparison asks.
@@ -174,14 +170,14 @@ fn compare(alloc: Global, name: Bytes, line: &[u8], tokens: &[Token]) -> Result<
     let [] = rest else {
         return Err(Stop::NotALine);
     };
-    gives_two(
+    Ok(gives_two(
         alloc,
         name,
         truth_of(ty),
         Op::Icmp { pred },
         Arg { ty, opd: a },
         Arg { ty, opd: b },
-    )
+    ))
 }
 
 /// The flags that a cast may have.
@@ -224,7 +220,7 @@ fn convert(
     let [] = rest else {
         return Err(Stop::NotALine);
     };
-    gives_one(alloc, name, ty, Op::Cast { op, nneg }, a)
+    Ok(gives_one(alloc, name, ty, Op::Cast { op, nneg }, a))
 }
 
 /// A choice of two values.
@@ -252,7 +248,7 @@ fn extract(alloc: Global, name: Bytes, line: &[u8], tokens: &[Token]) -> Result<
     let [] = rest else {
         return Err(Stop::NotALine);
     };
-    gives_two(alloc, name, ty, Op::Extract, row, index)
+    Ok(gives_two(alloc, name, ty, Op::Extract, row, index))
 }
 
 /// A vector with another lane.
@@ -280,7 +276,7 @@ fn shuffle(alloc: Global, name: Bytes, line: &[u8], tokens: &[Token]) -> Result<
     let [] = rest else {
         return Err(Stop::NotALine);
     };
-    gives_two(alloc, name, ty, Op::Shuffle { mask }, a, b)
+    Ok(gives_two(alloc, name, ty, Op::Shuffle { mask }, a, b))
 }
 
 /// The end of a `getelementptr`: into an array there may be another index.
@@ -303,14 +299,14 @@ fn stepped(
             let [] = tokens else {
                 return Err(Stop::NotALine);
             };
-            gives_two(
+            Ok(gives_two(
                 alloc,
                 name,
                 Ty::Ptr,
                 Op::Gep { elem, inbounds },
                 pointer,
                 index,
-            )
+            ))
         }
         Elem::Array { n, w } => into_array(
             alloc, name, inbounds, n, w, pointer, index, line, tokens,
@@ -347,7 +343,7 @@ fn into_array(
             let [] = tokens else {
                 return Err(Stop::NotALine);
             };
-            gives_two(alloc, name, Ty::Ptr, op, pointer, index)
+            Ok(gives_two(alloc, name, Ty::Ptr, op, pointer, index))
         }
         Err(Stop::OutOfMemory) => Err(Stop::OutOfMemory),
     }
@@ -379,7 +375,7 @@ fn load(alloc: Global, name: Bytes, line: &[u8], tokens: &[Token]) -> Result<Lin
     let op = Op::Load {
         align: align.unwrap_or(1),
     };
-    gives_one(alloc, name, ty, op, pointer)
+    Ok(gives_one(alloc, name, ty, op, pointer))
 }
 
 /// A new object.
@@ -393,7 +389,7 @@ fn allocate(alloc: Global, name: Bytes, line: &[u8], tokens: &[Token]) -> Result
         result: Some(name),
         ty: Ty::Ptr,
         op: Op::Alloca { elem, align },
-        args: Args::new(alloc),
+        args: Args::none(),
         labels: Names::new(alloc),
     };
     finish(line, rest, Line::Stmt(stmt))
@@ -415,7 +411,7 @@ fn phi(alloc: Global, name: Bytes, line: &[u8], tokens: &[Token]) -> Result<Line
         result: Some(name),
         ty,
         op: Op::Phi { blocks },
-        args,
+        args: Args::from_list(args),
         labels,
     };
     finish(line, rest, Line::Stmt(stmt))

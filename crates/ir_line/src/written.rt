@@ -4,7 +4,7 @@
 
 use ir_types::{Bytes, Literal, Ty};
 use std::alloc::{AllocError, Global};
-use vx_list::{Equal, Seq, TryClone};
+use vx_list::{Equal, TryClone};
 
 /// An operand as it is written.
 #[derive(Debug, Drop)]
@@ -23,9 +23,6 @@ pub struct Arg {
     pub ty: Ty,
     pub opd: Written,
 }
-
-/// The operands of a line in the order of its form.
-pub type Args = Seq<Arg>;
 
 impl TryClone for Written {
     fn try_clone(&self, alloc: Global) -> Result<Self, AllocError> {

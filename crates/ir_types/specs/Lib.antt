@@ -1,3 +1,4 @@
+pub mod IdTable
 pub mod Lits
 pub mod Walks
 pub mod Available

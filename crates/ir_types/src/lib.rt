@@ -8,6 +8,7 @@
 mod call_site;
 mod func;
 mod id;
+mod id_table;
 mod inst;
 mod literal;
 mod lits;
@@ -21,6 +22,7 @@ mod ty;
 pub use call_site::CallSite;
 pub use func::{Block, Func, Param};
 pub use id::{Id, Place, Use};
+pub use id_table::IdTable;
 pub use inst::Inst;
 pub use literal::Literal;
 pub use lits::{Lanes, Lits};
