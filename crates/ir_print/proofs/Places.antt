@@ -1,4 +1,4 @@
--- The map from ids to places, one local further.
+-- The index from ids to places, one local further.
 use Rattle.std.proofs.Common.{◌≡◌, ℕ, ◌+◌, ◌<◌, Bool, true, false, cond, List, ◌∷◌, Some, None, Option, length, drop, refl, ap, sym, ◌∙◌, get_or, slice_get, subst}
 use Rattle.std.specs.Prelude.{option_and_then}
 use Rattle.std.proofs.lemmas.Option.{slice_get-get_or}

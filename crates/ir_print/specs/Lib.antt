@@ -3,5 +3,6 @@ pub mod Literals
 pub mod Names
 pub mod Operands
 pub mod Instructions
+pub mod Index
 pub mod Shown
 pub mod Text

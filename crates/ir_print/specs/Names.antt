@@ -1,10 +1,7 @@
 -- Names and numbers in a function: what is shown of each value and of each block.
 -- What has a written name shows it. The rest, parameters, blocks and results, is numbered from 0 by one counter in order of the
 -- text; an unlabelled first block takes a number too, and an instruction without a result takes none.
-use Rattle.std.specs.Prelude.{◌≡◌, refl, ℕ, ◌+◌, Bool, true, false, ◌&&◌, Option, Some, None, List, [], ◌∷◌, ◌++◌, codes, nat_eq, if◌then◌else◌, option_and_then, slice_get}
-use Rattle.std.specs.HashMap.{HashMap, get_by}
-use Rattle.std.specs.declared.hash.FoldHasher.{FoldHasher}
-use Rattle.std.specs.declared.hash.BuildHasherDefault.{BuildHasherDefault}
+use Rattle.std.specs.Prelude.{ℕ, ◌+◌, Bool, true, false, ◌&&◌, Option, Some, None, List, [], ◌∷◌, ◌++◌, codes, nat_eq, if◌then◌else◌}
 use Rattle.std.specs.Fmt.{decimal, digits}
 use Rattle.ir_types.specs.declared.id.Id.{Id}
 use Rattle.ir_types.specs.declared.ty.Ty.{Ty}
@@ -94,7 +91,3 @@ last_of id (l ∷ ls) before = last_of id ls (if same_id l.id id then Some l els
 -- the value of an id; where a text that is not formed has several, the last
 abbrev pub local_of : Id → List Local → Option Local
 local_of id ls = last_of id ls None
-
--- a map has the place of each id's value
-abbrev pub IsIndex : HashMap Id ℕ (BuildHasherDefault FoldHasher) → List Local → Type 0
-IsIndex places ls = (id : Id) → option_and_then (λ at. slice_get ls at) (get_by (same_id id) places) ≡ local_of id ls

@@ -7,6 +7,7 @@
 mod flow_ops;
 mod form;
 mod func;
+mod index;
 mod inst;
 mod memory_ops;
 mod module;

@@ -1,7 +1,7 @@
 //! The names of a function: what is shown of each value and of each block.
 //!
-//! `Names::of` gathers them once a function; a look-up by id is then one in a hash map. Want of memory is the only failure.
-//! The locals stand in order of the text, and the map has the place of each id's last. Written names stay in the function, and
+//! `Names::of` gathers them once a function; a look-up by id is then one in an index. Want of memory is the only failure.
+//! The locals stand in order of the text, and the index has the place of each id's last. Written names stay in the function, and
 //! numbers are written out only where they are shown.
 
 ghost use Rattle.std.specs.Prelude.{◌≡◌, ◌++◌, ◌∷◌, List, IfOk, OnOk, slice_get};
@@ -10,9 +10,9 @@ ghost use Rattle.ir_print.specs.Names as names;
 ghost use Rattle.ir_print.specs.Names.{Named};
 
 use crate::form::Shown;
+use crate::index::{Index, index_of};
 use ir_types::{Block, Bytes, Func, Id, Inst, Op, Param, Ty};
 use std::alloc::{AllocError, Global};
-use std::collections::HashMap;
 use std::marker::Model;
 
 /// A value with what is shown of it.
@@ -29,7 +29,7 @@ pub struct Local<'a> {
 pub struct Names<'a> {
     locals: Vec<Local<'a>>,
     labels: Vec<Shown<'a>>,
-    places: HashMap<Id, usize>,
+    index: Index,
 }
 
 impl<'a> Model for Names<'a> {
@@ -37,11 +37,11 @@ impl<'a> Model for Names<'a> {
 
     ghost Value = { Shown };
 
-    ghost use Rattle.ir_print.specs.Names.{IsIndex};
+    ghost use Rattle.ir_print.specs.Index.{IsIndex};
 
     ghost view = { λ n. record { locals = n.locals.items; labels = n.labels.items } };
 
-    ghost invariant = { λ n. IsIndex n.places n.locals.items };
+    ghost invariant = { λ n. IsIndex n.index n.locals.items };
 }
 
 /// The next number, and what is shown of all values and blocks so far.
@@ -169,17 +169,6 @@ impl<'a> Numbering<'a> {
     }
 }
 
-/// The place of each id's value.
-fn places_of(alloc: Global, locals: &[Local]) -> Result<HashMap<Id, usize>, AllocError>
-    ensures { IfOk result (λ places. names.IsIndex places locals.now) }
-{
-    let mut places = HashMap::new(alloc);
-    for (at, local) in locals.iter().enumerate() {
-        places.insert(local.id, at)?;
-    }
-    Ok(places)
-}
-
 impl<'a> Names<'a> {
     /// The names of a function.
     pub(crate) fn of(alloc: Global, func: &'a Func) -> Result<Names<'a>, AllocError>
@@ -197,11 +186,11 @@ impl<'a> Names<'a> {
             locals,
             labels,
         } = numbering;
-        let places = places_of(alloc, locals.as_slice())?;
+        let index = index_of(alloc, locals.as_slice())?;
         Ok(Names {
             locals,
             labels,
-            places,
+            index,
         })
     }
 
@@ -209,7 +198,7 @@ impl<'a> Names<'a> {
     pub(crate) fn local(&self, id: Id) -> Option<&Local<'a>>
         ensures { option_copied result ≡ names.local_of id self.now.locals }
     {
-        let at = self.places.get(&id).copied()?;
+        let at = self.index.get(id)?;
         self.locals.get(at)
     }
 

@@ -27,12 +27,25 @@ pub(crate) fn push_ty(out: &mut Vec<u8>, ty: Ty) -> Result<(), AllocError>
 {
     match ty {
         Ty::Void => out.extend_from_slice(b"void")?,
-        Ty::Int(w) => {
+        Ty::Int(w) => push_int(out, w)?,
+        Ty::Ptr => out.extend_from_slice(b"ptr")?,
+        Ty::Row { n, w } => push_row(out, n as u64, w)?,
+    }
+    Ok(())
+}
+
+/// An integer type; those of most modules in one piece.
+fn push_int(out: &mut Vec<u8>, w: u8) -> Result<(), AllocError>
+    ensures { OnOk result (out.new.items ≡ out.old.items ++ (codes "i" ++ decimal w)) }
+{
+    match w {
+        8 => out.extend_from_slice(b"i8")?,
+        32 => out.extend_from_slice(b"i32")?,
+        64 => out.extend_from_slice(b"i64")?,
+        _ => {
             out.extend_from_slice(b"i")?;
             push_decimal(out, w as u64)?
         }
-        Ty::Ptr => out.extend_from_slice(b"ptr")?,
-        Ty::Row { n, w } => push_row(out, n as u64, w)?,
     }
     Ok(())
 }

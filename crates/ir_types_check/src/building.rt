@@ -15,7 +15,7 @@ ghost use Rattle.ir_types_check.specs.Resolved as resolved;
 ghost use Rattle.ir_types_check.specs.Typed as typed;
 
 use crate::ResolveRefusal;
-use crate::context::Context;
+use crate::context::{Context, Spot};
 use crate::edges::sources_of;
 use crate::links::{Linked, op_with};
 use crate::locals::Locals;
@@ -59,18 +59,17 @@ fn id_of(k: u32) -> Id
 fn inst_of(
     alloc: Global,
     known: &Context,
+    spot: &Spot,
     k: u32,
-    line: u32,
     stmt: &Stmt,
-    rest: &[Numbered],
     fits: &mut bool,
 ) -> Result<Inst, ResolveRefusal>
-    ensures inst { Gives (λ inst. inst) result (build.inst_of known.now.tops.now known.now.locals.now known.now.base k line stmt.now rest.now) }
+    ensures inst { Gives (λ inst. inst) result (build.inst_of known.now.tops.now known.now.locals.now known.now.base k spot.now.line stmt.now spot.now.rest.now) }
     ensures fits { OnOk result (fits.new ≡ (fits.old && list_all (typed.arg_fits known.now.locals.now) stmt.now.args)) }
 {
     let mut linked = Linked::new(alloc);
-    linked.link(alloc, known, line, stmt, fits)?;
-    let op = op_with(alloc, known.locals, &linked.blocks, &stmt.op, rest)?;
+    linked.link(alloc, known, spot.line, stmt, fits)?;
+    let op = op_with(alloc, known.locals, &linked.blocks, &stmt.op, spot.rest)?;
     let name = written(alloc, &stmt.result)?;
     Ok(Inst {
         id: id_of(k),
@@ -177,42 +176,39 @@ impl Built {
         &mut self,
         alloc: Global,
         known: &Context,
-        at: At,
-        line: u32,
+        spot: &Spot,
         stmt: &Stmt,
-        rest: &[Numbered],
         ill: &mut Option<u32>,
     ) -> Result<(), ResolveRefusal>
-        ensures built { Gives (λ _. self.new) result (build.with_statement known.now.tops.now known.now.locals.now known.now.base line self.old stmt.now rest.now) }
-        ensures typed { OnOk result (told ill.new ≡ first_told ill.old (typed.line_typed known.now.tops.now known.now.locals.now known.now.ret known.now.sources.now at line (StmtLine stmt.now) rest.now)) }
+        ensures built { Gives (λ _. self.new) result (build.with_statement known.now.tops.now known.now.locals.now known.now.base spot.now.line self.old stmt.now spot.now.rest.now) }
+        ensures typed { OnOk result (told ill.new ≡ first_told ill.old (typed.line_typed known.now.tops.now known.now.locals.now known.now.ret known.now.sources.now spot.now.at spot.now.line (StmtLine stmt.now) spot.now.rest.now)) }
     {
         let k = count_of(self.lines.len())?;
         let mut fits = true;
-        let inst = inst_of(alloc, known, k, line, stmt, rest, &mut fits)?;
-        self.add_inst(alloc, line, inst, rest)?;
-        judge(alloc, known, at, line, stmt, fits, rest, ill)?;
+        let inst = inst_of(alloc, known, spot, k, stmt, &mut fits)?;
+        self.add_inst(alloc, spot.line, inst, spot.rest)?;
+        judge(alloc, known, spot, stmt, fits, ill)?;
         Ok(())
     }
 
-    /// Adds a line of the body, after which these follow.
+    /// Adds a line of the body.
     fn add_line(
         &mut self,
         alloc: Global,
         known: &Context,
-        at: At,
-        first: &Numbered,
-        rest: &[Numbered],
+        spot: &Spot,
+        form: &Line,
         ill: &mut Option<u32>,
     ) -> Result<(), ResolveRefusal>
-        ensures built { Gives (λ _. self.new) result (build.built_line known.now.tops.now known.now.locals.now known.now.base first.now.line self.old first.now.form rest.now) }
-        ensures typed { OnOk result (told ill.new ≡ first_told ill.old (typed.line_typed known.now.tops.now known.now.locals.now known.now.ret known.now.sources.now at first.now.line first.now.form rest.now)) }
+        ensures built { Gives (λ _. self.new) result (build.built_line known.now.tops.now known.now.locals.now known.now.base spot.now.line self.old form.now spot.now.rest.now) }
+        ensures typed { OnOk result (told ill.new ≡ first_told ill.old (typed.line_typed known.now.tops.now known.now.locals.now known.now.ret known.now.sources.now spot.now.at spot.now.line form.now spot.now.rest.now)) }
     {
-        match &first.form {
+        match form {
             Line::Label(name) => {
-                self.add_label(alloc, name, rest)?;
+                self.add_label(alloc, name, spot.rest)?;
                 Ok(())
             }
-            Line::Stmt(stmt) => self.add_statement(alloc, known, at, first.line, stmt, rest, ill),
+            Line::Stmt(stmt) => self.add_statement(alloc, known, spot, stmt, ill),
             _ => Ok(()),
         }
     }
@@ -231,7 +227,12 @@ impl Built {
         let mut at = At::start();
         let mut rest = body;
         'each: while let [first, after @ ..] = rest {
-            self.add_line(alloc, known, at, first, after, ill)?;
+            let spot = Spot {
+                at,
+                line: first.line,
+                rest: after,
+            };
+            self.add_line(alloc, known, &spot, &first.form, ill)?;
             at = at.behind(&first.form)?;
             rest = after;
         }

@@ -180,6 +180,19 @@ impl<'a> Locals<'a> {
     }
 }
 
+/// How many names these lines define at least: those that they write.
+fn written_names(body: &[Numbered]) -> usize {
+    let mut count = 0usize;
+    for line in body {
+        match &line.form {
+            Line::Label(_) => count = count.saturating_add(1),
+            Line::Stmt(stmt) if stmt.result.is_some() => count = count.saturating_add(1),
+            _ => {}
+        }
+    }
+    count
+}
+
 /// The names of a function whose header stands in this line.
 #[tactic(auto, unfolding(crate::specs::Locals::locals_of))]
 pub(crate) fn locals_of<'a>(
@@ -190,8 +203,9 @@ pub(crate) fn locals_of<'a>(
 ) -> Result<Locals<'a>, ResolveRefusal>
     ensures { Gives (λ whole. whole) result (locals.locals_of line head.now body.now) }
 {
+    let room = written_names(body).saturating_add(head.params.len());
     let mut whole = Locals {
-        scope: Scope::new(alloc),
+        scope: Scope::with_room(alloc, room)?,
         at: At::start(),
     };
     whole.add_params(alloc, line, head.params.as_slice())?;

@@ -62,6 +62,15 @@ impl<'a, T: Drop> Scope<'a, T> {
         }
     }
 
+    /// No names, with room for so many.
+    pub(crate) fn with_room(alloc: Global, room: usize) -> Result<Scope<'a, T>, AllocError>
+        ensures { IfOk result (λ scope. scope ≡ []) }
+    {
+        Ok(Scope {
+            entries: IndexMap::with_capacity(alloc, room)?,
+        })
+    }
+
     /// What a name means.
     pub(crate) fn get(&self, name: &[u8]) -> Option<&T>
         ensures { option_copied result ≡ scope.meaning name.now self.now }

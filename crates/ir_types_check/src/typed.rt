@@ -13,11 +13,10 @@ ghost use Rattle.ir_types_check.specs.Typed as typed;
 
 use crate::ResolveRefusal;
 use crate::cases::Seen;
-use crate::context::Context;
+use crate::context::{Context, Spot};
 use crate::edges::{number_of, targets};
 use crate::links::lane_of;
 use crate::locals::Meaning;
-use crate::outline::At;
 use crate::phis::phi_fits;
 use crate::scope::Scope;
 use crate::types::{calls, first_ty, same_ty};
@@ -159,42 +158,38 @@ fn cases_typed(
     }
 }
 
-/// A statement in this line, after which these follow. Whether its operands have their written types is given.
+/// A statement. Whether its operands have their written types is given.
 fn stmt_typed(
     alloc: Global,
     known: &Context,
-    at: At,
-    line: u32,
+    spot: &Spot,
     stmt: &Stmt,
     args_fit: bool,
-    rest: &[Numbered],
 ) -> Result<(), ResolveRefusal>
     requires { args_fit ≡ list_all (typed.arg_fits known.now.locals.now) stmt.now.args }
-    ensures { Gives (λ done. done) result (typed.line_typed known.now.tops.now known.now.locals.now known.now.ret known.now.sources.now at line (StmtLine stmt.now) rest.now) }
+    ensures { Gives (λ done. done) result (typed.line_typed known.now.tops.now known.now.locals.now known.now.ret known.now.sources.now spot.now.at spot.now.line (StmtLine stmt.now) spot.now.rest.now) }
 {
-    let fits = stmt_fits(alloc, known, at.block_here(), stmt, args_fit)?;
-    require(line, fits)?;
-    cases_typed(alloc, known.locals, stmt, rest)
+    let fits = stmt_fits(alloc, known, spot.at.block_here(), stmt, args_fit)?;
+    require(spot.line, fits)?;
+    cases_typed(alloc, known.locals, stmt, spot.rest)
 }
 
 /// The same, where the first line that is ill typed is kept.
 pub(crate) fn judge(
     alloc: Global,
     known: &Context,
-    at: At,
-    line: u32,
+    spot: &Spot,
     stmt: &Stmt,
     args_fit: bool,
-    rest: &[Numbered],
     ill: &mut Option<u32>,
 ) -> Result<(), AllocError>
     requires { args_fit ≡ list_all (typed.arg_fits known.now.locals.now) stmt.now.args }
-    ensures { OnOk result (told ill.new ≡ first_told ill.old (typed.line_typed known.now.tops.now known.now.locals.now known.now.ret known.now.sources.now at line (StmtLine stmt.now) rest.now)) }
+    ensures { OnOk result (told ill.new ≡ first_told ill.old (typed.line_typed known.now.tops.now known.now.locals.now known.now.ret known.now.sources.now spot.now.at spot.now.line (StmtLine stmt.now) spot.now.rest.now)) }
 {
     if ill.is_some() {
         return Ok(());
     }
-    match stmt_typed(alloc, known, at, line, stmt, args_fit, rest) {
+    match stmt_typed(alloc, known, spot, stmt, args_fit) {
         Ok(()) => Ok(()),
         Err(ResolveRefusal::IllTyped { line }) => {
             *ill = Some(line);
