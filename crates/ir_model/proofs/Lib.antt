@@ -12,4 +12,8 @@ pub mod Formed
 pub mod Renumbering
 pub mod Rows
 pub mod Acts
+pub mod Ids
+pub mod Walked
+pub mod Shaped
+pub mod Sound
 pub mod Indices

@@ -35,7 +35,7 @@ abbrev pub among : List Id → Id → Bool
 among [] x = false
 among (y ∷ ys) x = same_id y x || among ys x
 
-same_is : (x y : Id) → same_id x y ≡ true → x ≡ y
+pub same_is : (x y : Id) → same_id x y ≡ true → x ≡ y
 same_is x y h =
     let region : x.region ≡ y.region = grind (arith, nat_tests) in
     let k : x.k ≡ y.k = grind (arith, nat_tests) in
@@ -83,7 +83,7 @@ apart k j x less e = ap (same_id (record { region = 0; k = k })) e ∙ different
   different : nat_eq 0 0 && nat_eq k j ≡ false
   different = grind (arith, nat_tests)
 
-swapped : (x y : Id) → same_id x y ≡ same_id y x
+pub swapped : (x y : Id) → same_id x y ≡ same_id y x
 swapped x y = by_test (same_id x y) (same_id y x) refl refl where
   by_test : (a b : Bool) → same_id x y ≡ a → same_id y x ≡ b → a ≡ b
   by_test true true e f = refl
