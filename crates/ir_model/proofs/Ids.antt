@@ -15,7 +15,7 @@ use Rattle.ir_types.specs.Typed.{is_value}
 use Rattle.ir_types.specs.Formed.{given_ty, ty_in_insts, or_else, ty_in_blocks, ty_in_params, value_ty, block_ids, item_ids, ids_of_items}
 use Rattle.ir_model.specs.Values.{same_id}
 use Rattle.ir_model.specs.Run.{typed_params, typed_insts, typed_blocks, types_of}
-use Rattle.ir_model.proofs.Renumbering.{among, among_left, among_right, same_is, same_itself, swapped}
+use Rattle.ir_types.proofs.Among.{among, among_left, among_right, same_is, same_itself, swapped}
 
 -- each id once
 abbrev pub Once : List Id → Type 0

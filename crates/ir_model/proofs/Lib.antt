@@ -8,7 +8,6 @@ pub mod NoCalls
 pub mod Finer
 pub mod Effects
 pub mod Steps
-pub mod Formed
 pub mod Renumbering
 pub mod Rows
 pub mod Acts

@@ -28,8 +28,8 @@ use Rattle.ir_model.specs.Step.{State, Went, Lost, Halts, On, Calls, set_result}
 use Rattle.ir_model.specs.Run.{Exit, Leaves, To, exit_with, is_terminator, is_phi, chosen, leave, types_of}
 use Rattle.ir_model.specs.Shapes.{HasShape, ResultHasShape, IsShaped}
 use Rattle.ir_model.specs.Causes.{IsCause}
-use Rattle.ir_model.proofs.Formed.{Every, every_of_all, IsValued, typed_valued}
-use Rattle.ir_model.proofs.Renumbering.{same_is, swapped}
+use Rattle.ir_types.proofs.Formed.{Every, every_of_all, IsValued, typed_valued}
+use Rattle.ir_types.proofs.Among.{same_is, swapped}
 use Rattle.ir_model.proofs.Rows.{lane_arg, no_arg}
 use Rattle.ir_model.proofs.Acts.{same_types}
 use Rattle.ir_model.proofs.Ids.{Once, value_type, types_agree}

@@ -31,8 +31,8 @@ use Rattle.ir_model.specs.Run.{Exit, Leaves, To, exit_with, is_terminator, is_ph
 use Rattle.ir_model.specs.Fits.{ValueFits, Fits}
 use Rattle.ir_model.specs.Shapes.{HasShape, ResultHasShape, IsShaped, BackHasShape, CallsKeepShapes, IsReachedAt, StartsAreShaped, OperandsHaveShapes, StepsKeepShapes, ResultsHaveShapes}
 use Rattle.ir_model.specs.Causes.{IsCause, CameTo, MeetsInsts, MeetsFrom, MeetsBlock, MeetsNext, MeetsAt, Meets, IsUndefinedFor, UndefinedHasCauses}
-use Rattle.ir_model.proofs.Formed.{Every, every_of_all, every_at, IsValued}
-use Rattle.ir_model.proofs.Renumbering.{swapped}
+use Rattle.ir_types.proofs.Formed.{Every, every_of_all, every_at, IsValued}
+use Rattle.ir_types.proofs.Among.{swapped}
 use Rattle.ir_model.proofs.Acts.{BackRow, acts}
 use Rattle.ir_model.proofs.Ids.{Once, once_of_pairs, func_once}
 use Rattle.ir_model.proofs.Walked.{stands_enter, stands_start, walk_more, ends_more, drop_first, drop_length, ends_last, ends_rest, targets_found, insts_found, targets_last, length_graph, contained_at, at_contained, counted_at, Arm, arm_found}
