@@ -33,8 +33,9 @@ pub fn modules_refine()
     ensures chain { (a b c : Module) → length b.globals ≤ length c.globals → ModuleRefines a b → ModuleRefines b c → ModuleRefines a c }
 {}
 
-/// A formed module and the same with its ids given anew may stand for each other.
+/// A formed module with its ids given anew is formed, and both may stand for each other.
 pub fn renumbered_refines()
+    ensures formed { (m : Module) → IsFormed m → IsFormed (renumbered m) }
     ensures new { (m : Module) → IsFormed m → ModuleRefines (renumbered m) m }
     ensures old { (m : Module) → IsFormed m → ModuleRefines m (renumbered m) }
 {}
