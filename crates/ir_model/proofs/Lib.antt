@@ -8,8 +8,11 @@ pub mod NoCalls
 pub mod Finer
 pub mod Effects
 pub mod Steps
-pub mod Formed
 pub mod Renumbering
 pub mod Rows
 pub mod Acts
+pub mod Ids
+pub mod Walked
+pub mod Shaped
+pub mod Sound
 pub mod Indices

@@ -1,7 +1,6 @@
 -- A module with its ids given anew runs as before: a value is found under the new id of its id.
-use Rattle.std.proofs.Common.{◌≡◌, refl, sym, ap, ◌∙◌, subst, ℕ, zero, suc, ◌+◌, ◌<◌, ◌≤◌, Bool, true, false, not, ◌&&◌, ◌||◌, Option, None, Some, List, [], ◌∷◌, ◌++◌, length, map, cond, nat_eq, slice_get, option_map, if◌then◌else◌, ◌⊎◌, inl, inr, arith}
+use Rattle.std.proofs.Common.{◌≡◌, refl, sym, ap, ◌∙◌, subst, ℕ, zero, suc, Bool, true, false, not, ◌&&◌, ◌||◌, Option, None, Some, List, [], ◌∷◌, ◌++◌, length, map, cond, nat_eq, slice_get, option_map}
 use Rattle.std.specs.List.{AllZip}
-use Rattle.std.proofs.lemmas.Bool.Decides.{nat_tests}
 use Rattle.std.proofs.lemmas.Option.{slice_get-map}
 use Rattle.ir_types.specs.declared.id.Id.{Id}
 use Rattle.ir_types.specs.declared.ty.Ty.{Ty}
@@ -16,7 +15,7 @@ use Rattle.ir_types.specs.declared.func.Func.{Func}
 use Rattle.ir_types.specs.declared.module.Item.{Item}
 use Rattle.ir_types.specs.declared.module.Item.TheVariants.{Kept, Opaque, Func as FuncItem}
 use Rattle.ir_types.specs.declared.module.Module.{Module}
-use Rattle.ir_types.specs.Formed.{given_ty, ty_in_insts, or_else, ty_in_blocks, ty_in_params, value_ty, opd_ty, block_ids, item_ids, ids_of_items, ids_of, IsFormedBlock, IsFormedItem, IsFormed}
+use Rattle.ir_types.specs.Formed.{ids_of, IsFormed}
 use Rattle.ir_types.specs.Renumbered.{new_id, new_opd, new_inst, new_block, new_param, new_func, new_item, renumbered}
 use Rattle.ir_model.specs.declared.value.Value.{Value}
 use Rattle.ir_model.specs.declared.value.Value.TheVariants.{Lane as LaneValue}
@@ -26,138 +25,40 @@ use Rattle.ir_model.specs.Step.{State, Went, Lost, Halts, On, then_go, Back, Rea
 use Rattle.ir_model.specs.Run.{Ended, Stops, Returns, Goes, Exit, Leaves, To, exit_with, is_terminator, is_phi, leave, arm_from, arm_of, with_phi, reached_if, run_insts, enter, run_block, typed_params, typed_insts, typed_blocks, types_of, start_env, is_unshared, noalias_holds, Runs, no_calls, on_exit, turn_at, runs, outcome_of, run_func, run_found, functions_of, run_of}
 use Rattle.ir_model.specs.Refines.{OutcomeRefines, SameParam, SameItem, ModuleRefines}
 use Rattle.ir_model.proofs.Same.{outcome_same}
-use Rattle.ir_model.proofs.Formed.{Every, every_of_all, every_of_each, every_at, IsThere, opds_there}
-
--- ---- ids
-
--- whether an id is one of these
-abbrev pub among : List Id → Id → Bool
-among [] x = false
-among (y ∷ ys) x = same_id y x || among ys x
-
-same_is : (x y : Id) → same_id x y ≡ true → x ≡ y
-same_is x y h =
-    let region : x.region ≡ y.region = grind (arith, nat_tests) in
-    let k : x.k ≡ y.k = grind (arith, nat_tests) in
-    λ i. record { region = region i; k = k i }
-
-pub same_itself : (x : Id) → same_id x x ≡ true
-same_itself x = grind (arith, nat_tests)
-
-or_split : (a b : Bool) → (a || b) ≡ true → (a ≡ true) ⊎ (b ≡ true)
-or_split true b h = inl refl
-or_split false b h = inr h
-
-or_left : (a b : Bool) → a ≡ true → (a || b) ≡ true
-or_left true b h = refl
-or_left false b h = absurd cc
-
-or_right : (a b : Bool) → b ≡ true → (a || b) ≡ true
-or_right true b h = refl
-or_right false b h = h
-
-pub among_left : (xs ys : List Id) (x : Id) → among xs x ≡ true → among (xs ++ ys) x ≡ true
-among_left [] ys x h = absurd cc
-among_left (z ∷ xs) ys x h = by_first (or_split (same_id z x) (among xs x) h) (λ r. among_left xs ys x r)
-  where
-    by_first : (same_id z x ≡ true) ⊎ (among xs x ≡ true) → (among xs x ≡ true → among (xs ++ ys) x ≡ true) → (same_id z x || among (xs ++ ys) x) ≡ true
-    by_first (inl e) more = or_left (same_id z x) (among (xs ++ ys) x) e
-    by_first (inr e) more = or_right (same_id z x) (among (xs ++ ys) x) (more e)
-
-pub among_right : (xs ys : List Id) (x : Id) → among ys x ≡ true → among (xs ++ ys) x ≡ true
-among_right [] ys x h = h
-among_right (z ∷ xs) ys x h = or_right (same_id z x) (among (xs ++ ys) x) (among_right xs ys x h)
-
--- the new id of one of these is a number from k on
-new_number : (k : ℕ) (ids : List Id) (x : Id) → among ids x ≡ true → (j : ℕ) × (k ≤ j) × (new_id k ids x ≡ record { region = 0; k = j })
-new_number k [] x h = absurd cc
-new_number k (y ∷ ys) x h = by_first (same_id y x) refl h (λ r. new_number (k + 1) ys x r)
-  where
-    by_first : (b : Bool) → same_id y x ≡ b → (b || among ys x) ≡ true → (among ys x ≡ true → (j : ℕ) × (k + 1 ≤ j) × (new_id (k + 1) ys x ≡ record { region = 0; k = j })) →
-        (j : ℕ) × (k ≤ j) × (cond b (record { region = 0; k = k }) (new_id (k + 1) ys x) ≡ record { region = 0; k = j })
-    by_first true e h more = (k, omega arith, refl)
-    by_first false e h more = let r = more h in (r.0, omega arith, r.2)
-
-apart : (k j : ℕ) (x : Id) → k < j → x ≡ record { region = 0; k = j } → same_id (record { region = 0; k = k }) x ≡ false
-apart k j x less e = ap (same_id (record { region = 0; k = k })) e ∙ different where
-  different : nat_eq 0 0 && nat_eq k j ≡ false
-  different = grind (arith, nat_tests)
-
-swapped : (x y : Id) → same_id x y ≡ same_id y x
-swapped x y = by_test (same_id x y) (same_id y x) refl refl where
-  by_test : (a b : Bool) → same_id x y ≡ a → same_id y x ≡ b → a ≡ b
-  by_test true true e f = refl
-  by_test false false e f = refl
-  by_test true false e f = absurd (false_true (sym f ∙ ap (λ z. same_id y z) (same_is x y e) ∙ same_itself y)) where
-    false_true : false ≡ true → ⊥
-    false_true e = cc
-  by_test false true e f = absurd (false_true (sym e ∙ ap (λ z. same_id x z) (same_is y x f) ∙ same_itself x)) where
-    false_true : false ≡ true → ⊥
-    false_true e = cc
-
--- different ids get different numbers
-pub new_apart : (k : ℕ) (ids : List Id) (x y : Id) → among ids x ≡ true → among ids y ≡ true → same_id (new_id k ids x) (new_id k ids y) ≡ same_id x y
-new_apart k [] x y hx hy = absurd cc
-new_apart k (z ∷ zs) x y hx hy = by_test (same_id z x) (same_id z y) refl refl hx hy (λ p q. new_apart (k + 1) zs x y p q)
-  where
-    first : Id
-    first = record { region = 0; k = k }
-
-    later : (v : Id) → among zs v ≡ true → same_id first (new_id (k + 1) zs v) ≡ false
-    later v h = let r = new_number (k + 1) zs v h in apart k r.0 (new_id (k + 1) zs v) (let less = r.1 in omega arith) r.2
-
-    by_test : (a b : Bool) → same_id z x ≡ a → same_id z y ≡ b → (a || among zs x) ≡ true → (b || among zs y) ≡ true →
-        (among zs x ≡ true → among zs y ≡ true → same_id (new_id (k + 1) zs x) (new_id (k + 1) zs y) ≡ same_id x y) →
-        same_id (cond a first (new_id (k + 1) zs x)) (cond b first (new_id (k + 1) zs y)) ≡ same_id x y
-    by_test true true e f p q more = same_itself first ∙ sym (ap (λ v. same_id v y) (sym (same_is z x e)) ∙ f)
-    by_test true false e f p q more = later y q ∙ sym (ap (λ v. same_id v y) (sym (same_is z x e)) ∙ f)
-    by_test false true e f p q more =
-        swapped (new_id (k + 1) zs x) first ∙ later x p ∙ sym (swapped x y ∙ ap (λ v. same_id v x) (sym (same_is z y f)) ∙ e)
-    by_test false false e f p q more = more p q
+use Rattle.ir_types.proofs.Formed.{Every, every_at}
+use Rattle.ir_types.proofs.Among.{new_apart, In, OpdIn, InstIn, BlockIn, FuncIn, ItemIn, module_in}
 
 module _ (ids : List Id) where
   abbrev new : Id → Id
   new = new_id 0 ids
 
-  abbrev In : Id → Type 0
-  In x = among ids x ≡ true
-
   -- ---- operands
-
-  abbrev OpdIn : Opd → Type 0
-  OpdIn (Val x) = In x
-  OpdIn (Lit l) = Unit {0}
-  OpdIn (Sym g) = Unit {0}
-
-  pub record InstIn (i : Inst) : Type 0 where
-    pub id : In i.id
-    pub opds : Every OpdIn i.opds
 
   -- what is found under the new id is what was found under the old one
   abbrev Moved : {A : Type 0} → (Id → A) → (Id → A) → Type 0
-  Moved now before = (x : Id) → In x → now (new x) ≡ before x
+  Moved now before = (x : Id) → In ids x → now (new x) ≡ before x
 
-  value_moved : (now before : Env) → Moved now before → (o : Opd) → OpdIn o → value_of now (new_opd ids o) ≡ value_of before o
+  value_moved : (now before : Env) → Moved now before → (o : Opd) → OpdIn ids o → value_of now (new_opd ids o) ≡ value_of before o
   value_moved now before h (Val x) p = h x p
   value_moved now before h (Lit l) p = refl
   value_moved now before h (Sym g) p = refl
 
-  type_moved : (now before : Id → Ty) → Moved now before → (o : Opd) → OpdIn o → type_of now (new_opd ids o) ≡ type_of before o
+  type_moved : (now before : Id → Ty) → Moved now before → (o : Opd) → OpdIn ids o → type_of now (new_opd ids o) ≡ type_of before o
   type_moved now before h (Val x) p = h x p
   type_moved now before h (Lit l) p = refl
   type_moved now before h (Sym g) p = refl
 
-  all_moved : {A : Type 0} (now before : Opd → A) → ((o : Opd) → OpdIn o → now (new_opd ids o) ≡ before o) →
-      (os : List Opd) → Every OpdIn os → map now (map (new_opd ids) os) ≡ map before os
+  all_moved : {A : Type 0} (now before : Opd → A) → ((o : Opd) → OpdIn ids o → now (new_opd ids o) ≡ before o) →
+      (os : List Opd) → Every (OpdIn ids) os → map now (map (new_opd ids) os) ≡ map before os
   all_moved now before h [] p = refl
   all_moved now before h (o ∷ os) p = ap (λ v. v ∷ map now (map (new_opd ids) os)) (h o p.0) ∙ ap (λ vs. before o ∷ vs) (all_moved now before h os p.1)
 
-  set_moved : {A : Type 0} (now before : Id → A) (id : Id) (v : A) → Moved now before → In id →
+  set_moved : {A : Type 0} (now before : Id → A) (id : Id) (v : A) → Moved now before → In ids id →
       Moved (λ x. cond (same_id x (new id)) v (now x)) (λ x. cond (same_id x id) v (before x))
   set_moved now before id v h p x q =
       ap (λ b. cond b v (now (new x))) (new_apart 0 ids x id q p) ∙ ap (λ w. cond (same_id x id) v w) (h x q)
 
-  result_moved : (now before : Env) (id : Id) (v : Option Value) → Moved now before → In id → Moved (set_result now (new id) v) (set_result before id v)
+  result_moved : (now before : Env) (id : Id) (v : Option Value) → Moved now before → In ids id → Moved (set_result now (new id) v) (set_result before id v)
   result_moved now before id None h p = h
   result_moved now before id (Some v) h p = set_moved now before id v h p
 
@@ -212,12 +113,12 @@ module _ (ids : List Id) where
       (sym (ap (λ xs. act calls op t xs vs m k) a ∙ ap (λ xs. act calls op t us xs m k) b ∙ ap (λ x. act calls op t us ws x k) c ∙ ap (act calls op t us ws n) d))
       (same_back (act calls op t us ws n l))
 
-  reached_moved : (now before : Env) (id : Id) (x y : Back) → Moved now before → In id → x ≡ y → WentSame ReachedMoved (reached_with now (new id) x) (reached_with before id y)
+  reached_moved : (now before : Env) (id : Id) (x y : Back) → Moved now before → In ids id → x ≡ y → WentSame ReachedMoved (reached_with now (new id) x) (reached_with before id y)
   reached_moved now before id x y h p e =
       subst (λ b. WentSame ReachedMoved (reached_with now (new id) x) (reached_with before id b)) e
       (record { state = record { env = result_moved now before id x.result h p; memory = refl }; left = refl })
 
-  step_moved : (now before : Id → Ty) (calls : Calls) → Moved now before → (i : Inst) → InstIn i → (r s : Reached) → ReachedMoved r s →
+  step_moved : (now before : Id → Ty) (calls : Calls) → Moved now before → (i : Inst) → InstIn ids i → (r s : Reached) → ReachedMoved r s →
       WentSame ReachedMoved (step now calls (new_inst ids i) r) (step before calls i s)
   step_moved now before calls types i p r s z =
       then_moved (λ (x y : Back). x ≡ y) ReachedMoved
@@ -260,7 +161,7 @@ module _ (ids : List Id) where
   exit_moved k l (Goes at s) Stops h z = elim z [ ]
   exit_moved k l (Goes at s) (Returns w n) h z = elim z [ ]
 
-  insts_moved : (now before : Id → Ty) (calls : Calls) → Moved now before → (is : List Inst) → Every InstIn is → (r s : Reached) → ReachedMoved r s →
+  insts_moved : (now before : Id → Ty) (calls : Calls) → Moved now before → (is : List Inst) → Every (InstIn ids) is → (r s : Reached) → ReachedMoved r s →
       WentSame ExitMoved (run_insts now calls (map (new_inst ids) is) r) (run_insts before calls is s)
   insts_moved now before calls types [] p r s z = tt
   insts_moved now before calls types (i ∷ is) p r s z =
@@ -276,9 +177,9 @@ module _ (ids : List Id) where
   -- the arm of a phi
   pub record ArmMoved (now before : Option Opd) : Type 0 where
     pub same : now ≡ option_map (new_opd ids) before
-    pub inside : (o : Opd) → before ≡ Some o → OpdIn o
+    pub inside : (o : Opd) → before ≡ Some o → OpdIn ids o
 
-  arm_from_moved : (from : ℕ) (bs : List ℕ) (os : List Opd) → Every OpdIn os → ArmMoved (arm_from from bs (map (new_opd ids) os)) (arm_from from bs os)
+  arm_from_moved : (from : ℕ) (bs : List ℕ) (os : List Opd) → Every (OpdIn ids) os → ArmMoved (arm_from from bs (map (new_opd ids) os)) (arm_from from bs os)
   arm_from_moved from [] os p = record { same = refl; inside = λ o e. absurd cc }
   arm_from_moved from (b ∷ bs) [] p = record { same = refl; inside = λ o e. absurd cc }
   arm_from_moved from (b ∷ bs) (o ∷ os) p = by_test (arm_from_moved from bs os p.1) (nat_eq b from)
@@ -288,15 +189,15 @@ module _ (ids : List Id) where
 
       by_test : ArmMoved (arm_from from bs (map (new_opd ids) os)) (arm_from from bs os) → (t : Bool) →
           ArmMoved (cond t (Some (new_opd ids o)) (arm_from from bs (map (new_opd ids) os))) (cond t (Some o) (arm_from from bs os))
-      by_test rest true = record { same = refl; inside = λ u e. subst OpdIn (some u e) p.0 }
+      by_test rest true = record { same = refl; inside = λ u e. subst (OpdIn ids) (some u e) p.0 }
       by_test rest false = rest
 
-  arm_of_moved : (from : Option ℕ) (op : Op) (os : List Opd) → Every OpdIn os → ArmMoved (arm_of from op (map (new_opd ids) os)) (arm_of from op os)
+  arm_of_moved : (from : Option ℕ) (op : Op) (os : List Opd) → Every (OpdIn ids) os → ArmMoved (arm_of from op (map (new_opd ids) os)) (arm_of from op os)
   arm_of_moved (Some from) (Phi bs) os p = arm_from_moved from bs os p
   arm_of_moved None op os p = record { same = refl; inside = λ o e. absurd cc }
   arm_of_moved (Some from) op os p = record { same = refl; inside = λ o e. absurd cc }
 
-  phi_moved : (now before : Env) (id : Id) (r s : Reached) (o : Option Opd) → Moved now before → In id → ((u : Opd) → o ≡ Some u → OpdIn u) → ReachedMoved r s →
+  phi_moved : (now before : Env) (id : Id) (r s : Reached) (o : Option Opd) → Moved now before → In ids id → ((u : Opd) → o ≡ Some u → OpdIn ids u) → ReachedMoved r s →
       WentSame ReachedMoved (reached_if r.left (with_phi now (new id) r.state (option_map (new_opd ids) o))) (reached_if s.left (with_phi before id s.state o))
   phi_moved now before id r s None h p q z = tt
   phi_moved now before id r s (Some o) h p q z = record {
@@ -308,7 +209,7 @@ module _ (ids : List Id) where
     left = z.left;
   }
 
-  enter_moved : (now before : Id → Ty) (calls : Calls) → Moved now before → (from : Option ℕ) (edge old : Env) → Moved edge old → (is : List Inst) → Every InstIn is →
+  enter_moved : (now before : Id → Ty) (calls : Calls) → Moved now before → (from : Option ℕ) (edge old : Env) → Moved edge old → (is : List Inst) → Every (InstIn ids) is →
       (r s : Reached) → ReachedMoved r s → WentSame ExitMoved (enter now calls from edge (map (new_inst ids) is) r) (enter before calls from old is s)
   enter_moved now before calls types from edge old h [] p r s z = tt
   enter_moved now before calls types from edge old h (i ∷ is) p r s z =
@@ -325,40 +226,33 @@ module _ (ids : List Id) where
       (λ x y k. enter_moved now before calls types from edge old h is p.1 x y k))
       (insts_moved now before calls types (i ∷ is) p r s z)
 
-  abbrev BlockIn : Block → Type 0
-  BlockIn b = Every InstIn b.insts
-
-  block_moved : (now before : Id → Ty) (calls : Calls) → Moved now before → (from : Option ℕ) (b : Option Block) → ((c : Block) → b ≡ Some c → BlockIn c) → (r s : Reached) → ReachedMoved r s →
+  block_moved : (now before : Id → Ty) (calls : Calls) → Moved now before → (from : Option ℕ) (b : Option Block) → ((c : Block) → b ≡ Some c → BlockIn ids c) → (r s : Reached) → ReachedMoved r s →
       WentSame ExitMoved (run_block now calls from r (option_map (new_block ids) b)) (run_block before calls from s b)
   block_moved now before calls types from None p r s z = tt
   block_moved now before calls types from (Some b) p r s z = enter_moved now before calls types from r.state.env s.state.env z.state.env b.insts (p b refl) r s z
 
   -- ---- functions
 
-  pub record FuncIn (f : Func) : Type 0 where
-    pub params : Every (λ (p : Param). In p.id) f.params
-    pub blocks : Every BlockIn f.blocks
-
-  typed_insts_moved : (is : List Inst) (now before : Id → Ty) → Every InstIn is → Moved now before → Moved (typed_insts (map (new_inst ids) is) now) (typed_insts is before)
+  typed_insts_moved : (is : List Inst) (now before : Id → Ty) → Every (InstIn ids) is → Moved now before → Moved (typed_insts (map (new_inst ids) is) now) (typed_insts is before)
   typed_insts_moved [] now before p h x q = h x q
   typed_insts_moved (i ∷ is) now before p h x q =
       ap (λ b. cond b i.ty (typed_insts (map (new_inst ids) is) now (new x))) (new_apart 0 ids x i.id q p.0.id)
       ∙ ap (λ t. cond (same_id x i.id) i.ty t) (typed_insts_moved is now before p.1 h x q)
 
-  typed_blocks_moved : (bs : List Block) → Every BlockIn bs → Moved (typed_blocks (map (new_block ids) bs)) (typed_blocks bs)
+  typed_blocks_moved : (bs : List Block) → Every (BlockIn ids) bs → Moved (typed_blocks (map (new_block ids) bs)) (typed_blocks bs)
   typed_blocks_moved [] p x q = refl
   typed_blocks_moved (b ∷ bs) p x q = typed_insts_moved b.insts (typed_blocks (map (new_block ids) bs)) (typed_blocks bs) p.0 (typed_blocks_moved bs p.1) x q
 
-  typed_params_moved : (ps : List Param) (now before : Id → Ty) → Every (λ (p : Param). In p.id) ps → Moved now before → Moved (typed_params (map (new_param ids) ps) now) (typed_params ps before)
+  typed_params_moved : (ps : List Param) (now before : Id → Ty) → Every (λ (p : Param). In ids p.id) ps → Moved now before → Moved (typed_params (map (new_param ids) ps) now) (typed_params ps before)
   typed_params_moved [] now before h k x q = k x q
   typed_params_moved (p ∷ ps) now before h k x q =
       ap (λ b. cond b p.ty (typed_params (map (new_param ids) ps) now (new x))) (new_apart 0 ids x p.id q h.0)
       ∙ ap (λ t. cond (same_id x p.id) p.ty t) (typed_params_moved ps now before h.1 k x q)
 
-  types_moved : (f : Func) → FuncIn f → Moved (types_of (new_func ids f)) (types_of f)
+  types_moved : (f : Func) → FuncIn ids f → Moved (types_of (new_func ids f)) (types_of f)
   types_moved f p = typed_params_moved f.params (typed_blocks (map (new_block ids) f.blocks)) (typed_blocks f.blocks) p.params (typed_blocks_moved f.blocks p.blocks)
 
-  start_moved : (ps : List Param) (vs : List Value) → Every (λ (p : Param). In p.id) ps → Moved (start_env (map (new_param ids) ps) vs) (start_env ps vs)
+  start_moved : (ps : List Param) (vs : List Value) → Every (λ (p : Param). In ids p.id) ps → Moved (start_env (map (new_param ids) ps) vs) (start_env ps vs)
   start_moved [] vs h x q = refl
   start_moved (p ∷ ps) [] h x q = refl
   start_moved (p ∷ ps) (v ∷ vs) h x q =
@@ -388,7 +282,7 @@ module _ (ids : List Id) where
   then_exit_moved (On x) Lost f g h z = elim z [ ]
   then_exit_moved (On x) (Halts n) f g h z = elim z [ ]
 
-  turn_moved : (calls : Calls) (now before : Runs) (f : Func) → FuncIn f → (from : Option ℕ) (at : ℕ) (s t : State) (k l : ℕ) → StateMoved s t → k ≡ l →
+  turn_moved : (calls : Calls) (now before : Runs) (f : Func) → FuncIn ids f → (from : Option ℕ) (at : ℕ) (s t : State) (k l : ℕ) → StateMoved s t → k ≡ l →
       ((to : ℕ) (r q : Reached) → ReachedMoved r q → now (new_func ids f) (Some at) to r ≡ before f (Some at) to q) →
       turn_at calls now (new_func ids f) from at s k ≡ turn_at calls before f from at t l
   turn_moved calls now before f p from at s t k zero z e h =
@@ -399,16 +293,16 @@ module _ (ids : List Id) where
       ∙ then_exit_moved (run_block (types_of (new_func ids f)) calls from (record { state = s; left = l }) (option_map (new_block ids) (slice_get f.blocks at)))
       (run_block (types_of f) calls from (record { state = t; left = l }) (slice_get f.blocks at)) (now (new_func ids f) (Some at)) (before f (Some at)) h
       (block_moved (types_of (new_func ids f)) (types_of f) calls (types_moved f p) from (slice_get f.blocks at)
-      (λ c found. every_at BlockIn f.blocks at c p.blocks found) (record { state = s; left = l }) (record { state = t; left = l }) (record { state = z; left = refl }))
+      (λ c found. every_at (BlockIn ids) f.blocks at c p.blocks found) (record { state = s; left = l }) (record { state = t; left = l }) (record { state = z; left = refl }))
 
-  runs_moved : (f : Func) → FuncIn f → (fuel : ℕ) (from : Option ℕ) (at : ℕ) (r s : Reached) → ReachedMoved r s →
+  runs_moved : (f : Func) → FuncIn ids f → (fuel : ℕ) (from : Option ℕ) (at : ℕ) (r s : Reached) → ReachedMoved r s →
       runs no_calls fuel (new_func ids f) from at r ≡ runs no_calls fuel f from at s
   runs_moved f p zero from at r s z = ap Halts z.state.memory
   runs_moved f p (suc fuel) from at r s z =
       turn_moved (no_calls (runs no_calls fuel)) (runs no_calls fuel) (runs no_calls fuel) f p from at r.state s.state r.left s.left z.state z.left
       (λ to x y k. runs_moved f p fuel (Some at) to x y k)
 
-  func_moved : (globals : ℕ) (f : Func) → FuncIn f → (args : List Value) (m : Memory) (n : ℕ) →
+  func_moved : (globals : ℕ) (f : Func) → FuncIn ids f → (args : List Value) (m : Memory) (n : ℕ) →
       run_func no_calls globals (new_func ids f) args m n ≡ run_func no_calls globals f args m n
   func_moved globals f p args m n =
       ap (λ b. cond b (runs no_calls n (new_func ids f) None 0 (record { state = record { env = start_env (map (new_param ids) f.params) args; memory = m }; left = n })) Lost) (noalias_same globals [] f.params args)
@@ -418,33 +312,29 @@ module _ (ids : List Id) where
 
   -- ---- modules
 
-  abbrev ItemIn : Item → Type 0
-  ItemIn (FuncItem f) = FuncIn f
-  ItemIn _ = Unit {0}
-
   functions_moved : (items : List Item) → functions_of (map (new_item ids) items) ≡ map (new_func ids) (functions_of items)
   functions_moved [] = refl
   functions_moved (Kept text ∷ items) = functions_moved items
   functions_moved (Opaque text ∷ items) = functions_moved items
   functions_moved (FuncItem f ∷ items) = ap (λ fs. new_func ids f ∷ fs) (functions_moved items)
 
-  functions_in : (items : List Item) → Every ItemIn items → Every FuncIn (functions_of items)
+  functions_in : (items : List Item) → Every (ItemIn ids) items → Every (FuncIn ids) (functions_of items)
   functions_in [] h = tt
   functions_in (Kept text ∷ items) h = functions_in items h.1
   functions_in (Opaque text ∷ items) h = functions_in items h.1
   functions_in (FuncItem f ∷ items) h = (h.0, functions_in items h.1)
 
-  found_moved : (globals : ℕ) (o : Option Func) → ((f : Func) → o ≡ Some f → FuncIn f) → (args : List Value) (m : Memory) (n : ℕ) →
+  found_moved : (globals : ℕ) (o : Option Func) → ((f : Func) → o ≡ Some f → FuncIn ids f) → (args : List Value) (m : Memory) (n : ℕ) →
       run_found globals (option_map (new_func ids) o) args m n ≡ run_found globals o args m n
   found_moved globals None h args m n = refl
   found_moved globals (Some f) h args m n = ap outcome_of (func_moved globals f (h f refl) args m n)
 
-  pub items_run : (globals : ℕ) (items : List Item) → Every ItemIn items → (func : ℕ) (args : List Value) (m : Memory) (n : ℕ) →
+  pub items_run : (globals : ℕ) (items : List Item) → Every (ItemIn ids) items → (func : ℕ) (args : List Value) (m : Memory) (n : ℕ) →
       run_found globals (slice_get (functions_of (map (new_item ids) items)) func) args m n ≡ run_found globals (slice_get (functions_of items) func) args m n
   items_run globals items h func args m n =
       ap (λ fs. run_found globals (slice_get fs func) args m n) (functions_moved items)
       ∙ ap (λ o. run_found globals o args m n) (slice_get-map (new_func ids) (functions_of items) func)
-      ∙ found_moved globals (slice_get (functions_of items) func) (λ f e. every_at FuncIn (functions_of items) func f (functions_in items h) e) args m n
+      ∙ found_moved globals (slice_get (functions_of items) func) (λ f e. every_at (FuncIn ids) (functions_of items) func f (functions_in items h) e) args m n
 
 -- ---- headers
 
@@ -468,105 +358,12 @@ old_items ids (Kept text ∷ items) = (refl, old_items ids items)
 old_items ids (Opaque text ∷ items) = (refl, old_items ids items)
 old_items ids (FuncItem f ∷ items) = (record { before = refl; ret = refl; name = refl; params = old_params ids f.params; after = refl }, old_items ids items)
 
--- ---- each id of a formed module is one of its ids
-
--- a value with a type is a parameter or an instruction
-abbrev pub blocks_ids : List Block → List Id
-blocks_ids = block_ids
-
-in_insts : (x : Id) (is : List Inst) → IsThere (ty_in_insts x is) → among (map (λ (i : Inst). i.id) is) x ≡ true
-in_insts x [] h = elim h [ ]
-in_insts x (i ∷ is) h = by_test (same_id i.id x) h (λ r. in_insts x is r)
-  where
-    by_test : (b : Bool) → IsThere (if b then Some (given_ty i.op i.ty) else ty_in_insts x is) → (IsThere (ty_in_insts x is) → among (map (λ (j : Inst). j.id) is) x ≡ true) →
-        (b || among (map (λ (j : Inst). j.id) is) x) ≡ true
-    by_test true h more = refl
-    by_test false h more = more h
-
-or_there : (a b : Option Ty) → IsThere (or_else a b) → IsThere a ⊎ IsThere b
-or_there (Some t) b h = inl tt
-or_there None b h = inr h
-
-in_blocks : (x : Id) (bs : List Block) → IsThere (ty_in_blocks x bs) → among (block_ids bs) x ≡ true
-in_blocks x [] h = elim h [ ]
-in_blocks x (b ∷ bs) h = by_first (or_there (ty_in_insts x b.insts) (ty_in_blocks x bs) h) (λ r. in_blocks x bs r)
-  where
-    by_first : IsThere (ty_in_insts x b.insts) ⊎ IsThere (ty_in_blocks x bs) → (IsThere (ty_in_blocks x bs) → among (block_ids bs) x ≡ true) →
-        among (map (λ (i : Inst). i.id) b.insts ++ block_ids bs) x ≡ true
-    by_first (inl e) more = among_left (map (λ (i : Inst). i.id) b.insts) (block_ids bs) x (in_insts x b.insts e)
-    by_first (inr e) more = among_right (map (λ (i : Inst). i.id) b.insts) (block_ids bs) x (more e)
-
-in_params : (x : Id) (ps : List Param) → IsThere (ty_in_params x ps) → among (map (λ (p : Param). p.id) ps) x ≡ true
-in_params x [] h = elim h [ ]
-in_params x (p ∷ ps) h = by_test (same_id p.id x) h (λ r. in_params x ps r)
-  where
-    by_test : (b : Bool) → IsThere (if b then Some p.ty else ty_in_params x ps) → (IsThere (ty_in_params x ps) → among (map (λ (q : Param). q.id) ps) x ≡ true) →
-        (b || among (map (λ (q : Param). q.id) ps) x) ≡ true
-    by_test true h more = refl
-    by_test false h more = more h
-
-in_func : (f : Func) (x : Id) → IsThere (value_ty f x) → among (item_ids (FuncItem f)) x ≡ true
-in_func f x h = by_first (or_there (ty_in_params x f.params) (ty_in_blocks x f.blocks) h)
-  where
-    by_first : IsThere (ty_in_params x f.params) ⊎ IsThere (ty_in_blocks x f.blocks) → among (map (λ (p : Param). p.id) f.params ++ block_ids f.blocks) x ≡ true
-    by_first (inl e) = among_left (map (λ (p : Param). p.id) f.params) (block_ids f.blocks) x (in_params x f.params e)
-    by_first (inr e) = among_right (map (λ (p : Param). p.id) f.params) (block_ids f.blocks) x (in_blocks x f.blocks e)
-
-module _ (m : Module) (ids : List Id) where
-  opds_in : (f : Func) → ((x : Id) → among (item_ids (FuncItem f)) x ≡ true → among ids x ≡ true) → (os : List Opd) → Every IsThere (map (opd_ty m f) os) → Every (OpdIn ids) os
-  opds_in f more [] h = tt
-  opds_in f more (Val x ∷ os) h = (more x (in_func f x h.0), opds_in f more os h.1)
-  opds_in f more (Lit l ∷ os) h = (tt, opds_in f more os h.1)
-  opds_in f more (Sym g ∷ os) h = (tt, opds_in f more os h.1)
-
-  insts_in : (f : Func) (number : ℕ) → ((x : Id) → among (item_ids (FuncItem f)) x ≡ true → among ids x ≡ true) → (is : List Inst) →
-      ((x : Id) → among (map (λ (i : Inst). i.id) is) x ≡ true → among ids x ≡ true) →
-      Every (λ (i : Inst). Every IsThere (map (opd_ty m f) i.opds)) is → Every (InstIn ids) is
-  insts_in f number more [] here h = tt
-  insts_in f number more (i ∷ is) here h = (
-    record { id = here i.id (or_left (same_id i.id i.id) (among (map (λ (j : Inst). j.id) is) i.id) (same_itself i.id)); opds = opds_in f more i.opds h.0 },
-    insts_in f number more is (λ x e. here x (or_right (same_id i.id x) (among (map (λ (j : Inst). j.id) is) x) e)) h.1,
-  )
-
-  blocks_in : (f : Func) → ((x : Id) → among (item_ids (FuncItem f)) x ≡ true → among ids x ≡ true) → (bs : List Block) (number : ℕ) →
-      ((x : Id) → among (block_ids bs) x ≡ true → among ids x ≡ true) →
-      ((k : ℕ) (b : Block) → slice_get bs k ≡ Some b → IsFormedBlock m f (number + k) b) → Every (BlockIn ids) bs
-  blocks_in f more [] number here h = tt
-  blocks_in f more (b ∷ bs) number here h = (
-    insts_in f number more b.insts (λ x e. here x (among_left (map (λ (i : Inst). i.id) b.insts) (block_ids bs) x e))
-        (every_of_each (λ (i : Inst). Every IsThere (map (opd_ty m f) i.opds)) b.insts (λ k i e. opds_there m f (number + 0) k i ((h 0 b refl).insts k i e))),
-    blocks_in f more bs (number + 1) (λ x e. here x (among_right (map (λ (i : Inst). i.id) b.insts) (block_ids bs) x e))
-        (λ k c e. subst (λ n. IsFormedBlock m f n c) (omega arith) (h (suc k) c e)),
-  )
-
-  params_in : (ps : List Param) → ((x : Id) → among (map (λ (p : Param). p.id) ps) x ≡ true → among ids x ≡ true) → Every (λ (p : Param). among ids p.id ≡ true) ps
-  params_in [] here = tt
-  params_in (p ∷ ps) here = (
-    here p.id (or_left (same_id p.id p.id) (among (map (λ (q : Param). q.id) ps) p.id) (same_itself p.id)),
-    params_in ps (λ x e. here x (or_right (same_id p.id x) (among (map (λ (q : Param). q.id) ps) x) e)),
-  )
-
-  items_in : (items : List Item) → ((x : Id) → among (ids_of_items items) x ≡ true → among ids x ≡ true) → Every (IsFormedItem m) items → Every (ItemIn ids) items
-  items_in [] here h = tt
-  items_in (Kept text ∷ items) here h = (tt, items_in items here h.1)
-  items_in (Opaque text ∷ items) here h = (tt, items_in items here h.1)
-  items_in (FuncItem f ∷ items) here h = (
-    record {
-      params = params_in f.params (λ x e. more x (among_left (map (λ (p : Param). p.id) f.params) (block_ids f.blocks) x e));
-      blocks = blocks_in f more f.blocks 0 (λ x e. more x (among_right (map (λ (p : Param). p.id) f.params) (block_ids f.blocks) x e)) (λ k b e. subst (λ n. IsFormedBlock m f n b) (omega arith) (h.0.blocks k b e));
-    },
-    items_in items (λ x e. here x (among_right (item_ids (FuncItem f)) (ids_of_items items) x e)) h.1,
-  )
-    where
-      more : (x : Id) → among (item_ids (FuncItem f)) x ≡ true → among ids x ≡ true
-      more x e = here x (among_left (item_ids (FuncItem f)) (ids_of_items items) x e)
-
 -- ---- the module
 
 pub run_moved : (m : Module) → IsFormed m → (func : ℕ) (args : List Value) (memory : Memory) (bound : ℕ) →
     run_of (renumbered m) func args memory bound ≡ run_of m func args memory bound
 run_moved m h func args memory bound =
-    items_run (ids_of m) (length m.globals) m.items (items_in m (ids_of m) m.items (λ x e. e) (every_of_all (IsFormedItem m) m.items h.items)) func args memory bound
+    items_run (ids_of m) (length m.globals) m.items (module_in m h) func args memory bound
 
 pub new_refines : (m : Module) → IsFormed m → ModuleRefines (renumbered m) m
 new_refines m h = record {

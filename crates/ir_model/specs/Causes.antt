@@ -3,8 +3,10 @@
 -- `IsCause` has what makes an instruction undefined at the values of its operands; `Meets` says that a run comes to such an
 -- instruction, and goes along the run as `Run` does. In a formed module, from arguments that fit, a run is undefined for such a
 -- cause, or because two `noalias` objects meet at the start, and for nothing else. (Language Reference, "Undefined Behavior".)
-use Rattle.std.specs.Prelude.{◌≡◌, ℕ, zero, suc, ℤ, pos, negsuc, ◌+◌, ◌%◌, ◌<◌, ◌⊎◌, true, false, Option, None, Some, List, [], ◌∷◌, length, map, slice_get, ⊤}
+use Rattle.std.specs.Prelude.{◌≡◌, refl, ℕ, zero, suc, ℤ, pos, negsuc, ◌+◌, ◌%◌, ◌<◌, ◌⊎◌, true, false, Option, None, Some, List, [], ◌∷◌, length, map, slice_get, ⊤}
+use Rattle.std.proofs.Common.{inl, lit<}
 use Rattle.vx_num.specs.declared.operations.BinOp.{BinOp}
+use Rattle.vx_num.specs.declared.operations.BinOp.TheVariants.{Udiv, Sdiv}
 use Rattle.vx_num.specs.Bin.{is_undefined}
 use Rattle.ir_types.specs.declared.id.Id.{Id}
 use Rattle.ir_types.specs.declared.ty.Ty.{Ty}
@@ -15,14 +17,17 @@ use Rattle.ir_types.specs.declared.inst.Inst.{Inst}
 use Rattle.ir_types.specs.declared.func.Block.{Block}
 use Rattle.ir_types.specs.declared.func.Func.{Func}
 use Rattle.ir_types.specs.declared.module.Module.{Module}
+use Rattle.ir_types.specs.Formed.{IsFormed}
 use Rattle.ir_model.specs.declared.value.Value.{Value}
 use Rattle.ir_model.specs.declared.value.Value.TheVariants.{Lane as LaneValue, Row as RowValue}
+use Rattle.ir_model.specs.declared.outcome.Outcome.TheVariants.{Undefined}
 use Rattle.ir_model.specs.Values.{Lane, Pointer, Env, pointer_of, value_of}
 use Rattle.ir_model.specs.Memory.{Object, Memory}
 use Rattle.ir_model.specs.Sizes.{size_of}
 use Rattle.ir_model.specs.Operations.{low}
 use Rattle.ir_model.specs.Step.{State, Went, Lost, On, Reached, Calls, step}
-use Rattle.ir_model.specs.Run.{Exit, To, arm_of, with_phi, reached_if, run_block, types_of, start_env, noalias_holds, Ties, no_calls, runs}
+use Rattle.ir_model.specs.Run.{Exit, To, arm_of, with_phi, reached_if, run_block, types_of, start_env, noalias_holds, Ties, no_calls, runs, functions_of, run_of}
+use Rattle.ir_model.specs.Fits.{Fits}
 
 -- ---- divisions
 
@@ -111,3 +116,21 @@ abbrev pub IsUndefinedFor : Module → Func → List Value → Memory → ℕ �
 IsUndefinedFor m f args memory bound =
     (noalias_holds (length m.globals) [] f.params args ≡ false)
     ⊎ Meets no_calls bound f None 0 (record { state = record { env = start_env f.params args; memory = memory }; left = bound })
+
+-- in a formed module, from arguments that fit, a run is undefined for a cause alone
+abbrev pub UndefinedHasCauses : Type 0
+UndefinedHasCauses =
+    (m : Module) → IsFormed m → (func : ℕ) (f : Func) → slice_get (functions_of m.items) func ≡ Some f → (args : List Value) (memory : Memory) →
+    Fits m f args memory → (bound : ℕ) → run_of m func args memory bound ≡ Undefined → IsUndefinedFor m f args memory bound
+
+-- ---- worked examples
+
+by_zero : DividesBadly Udiv (Int 8) (LaneValue (Some 6) ∷ LaneValue (Some 0) ∷ [])
+by_zero = refl
+
+-- the second lanes have no quotient
+by_a_poison_lane : DividesBadly Sdiv (Row 2 8) (RowValue (Some 6 ∷ Some 7 ∷ []) ∷ RowValue (Some 3 ∷ None ∷ []) ∷ [])
+by_a_poison_lane = (1, Some 7, None, refl, refl, refl)
+
+no_room : IsBadAccess 4 1 (Some (0, pos 1)) ((None ∷ None ∷ None ∷ None ∷ []) ∷ [])
+no_room = (None ∷ None ∷ None ∷ None ∷ [], refl, inl (lit< tt))

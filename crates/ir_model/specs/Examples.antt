@@ -1,7 +1,7 @@
 -- Worked runs: two stores, an undefined run, a run that is cut, and two modules of which one may not stand for the other.
 use Rattle.std.specs.Prelude.{◌≡◌, refl, ℕ, zero, suc, pos, false, Option, None, Some, List, [], ◌∷◌, replicate, codes}
 use Rattle.std.specs.Int.{int_wrap}
-use Rattle.std.proofs.Common.{subst}
+use Rattle.std.proofs.Common.{subst, inl, inr, lit<}
 use Rattle.std.proofs.Math.Dec.{lit≤}
 use Rattle.std.proofs.Math.Facts.{sfits_lit}
 use Rattle.std.proofs.lemmas.List.Elements.{All-nil, All-cons, All-replicate}
@@ -26,6 +26,7 @@ use Rattle.ir_model.specs.Memory.{Memory}
 use Rattle.ir_model.specs.Step.{On, Halts, Calls, step}
 use Rattle.ir_model.specs.Run.{run_of}
 use Rattle.ir_model.specs.Fits.{ObjectFits, Fits}
+use Rattle.ir_model.specs.Causes.{IsUndefinedFor}
 use Rattle.ir_model.specs.Refines.{ModuleRefines}
 
 abbrev pub id : ℕ → Id
@@ -76,6 +77,11 @@ run_of_two_stores = refl
 run_without_room : run_of (module_b two_stores) 0 (PtrValue (Some (0, pos 0)) ∷ []) (poison_bytes ∷ []) 1 ≡ Undefined
 unfolding int_wrap
 run_without_room = refl
+
+-- and that is the cause: the first two instructions step, and the third stores 4 bytes at offset 4 of 4 bytes
+why_without_room : IsUndefinedFor (module_b two_stores) (func_b two_stores) (PtrValue (Some (0, pos 0)) ∷ []) (poison_bytes ∷ []) 1
+unfolding int_wrap
+why_without_room = inr (inl (inl (inr (inr (inl (Some 7 ∷ Some 0 ∷ Some 0 ∷ Some 0 ∷ [], refl, inl (lit< tt)))))))
 
 -- no store goes through poison
 run_of_poison : run_of (module_b two_stores) 0 (PtrValue None ∷ []) (poison_bytes ∷ []) 1 ≡ Undefined

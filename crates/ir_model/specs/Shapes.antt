@@ -2,23 +2,29 @@
 --
 -- A run takes a walk over the blocks. Where a value's definition stands on that walk, the environment has a value of its type's shape;
 -- which numbers its lanes are is not asked. A run of a formed module from arguments that fit keeps this.
-use Rattle.std.specs.Prelude.{◌≡◌, refl, ℕ, pos, ◌<◌, ◌≤◌, true, Option, None, Some, List, [], ◌∷◌, length, ⊤}
+use Rattle.std.specs.Prelude.{◌≡◌, refl, ℕ, pos, ◌+◌, ◌<◌, ◌≤◌, true, false, Option, None, Some, List, [], ◌∷◌, length, map, slice_get, ⊤}
 use Rattle.std.specs.List.{AllZip, Contains}
 use Rattle.ir_types.specs.declared.id.Id.{Id}
 use Rattle.ir_types.specs.declared.ty.Ty.{Ty}
 use Rattle.ir_types.specs.declared.ty.Ty.TheVariants.{Void, Int, Ptr, Row}
+use Rattle.ir_types.specs.declared.inst.Inst.{Inst}
 use Rattle.ir_types.specs.declared.func.Param.{Param}
+use Rattle.ir_types.specs.declared.func.Block.{Block}
 use Rattle.ir_types.specs.declared.func.Func.{Func}
 use Rattle.ir_types.specs.declared.module.Item.TheVariants.{Func as FuncItem}
 use Rattle.ir_types.specs.declared.module.Module.{Module}
 use Rattle.ir_types.specs.Typed.{is_value}
-use Rattle.ir_types.specs.Available.{stands_on}
-use Rattle.ir_types.specs.Formed.{value_ty}
+use Rattle.ir_types.specs.Walks.{IsWalk, EndsAt}
+use Rattle.ir_types.specs.Available.{graph_of, stands_on}
+use Rattle.ir_types.specs.Formed.{value_ty, IsFormed}
 use Rattle.ir_model.specs.declared.value.Value.{Value}
 use Rattle.ir_model.specs.declared.value.Value.TheVariants.{Lane as LaneValue, Row as RowValue, Ptr as PtrValue}
+use Rattle.ir_model.specs.declared.outcome.Outcome.TheVariants.{Returned}
+use Rattle.ir_model.specs.Values.{value_of, type_of}
 use Rattle.ir_model.specs.Memory.{Memory}
-use Rattle.ir_model.specs.Step.{State, On, Back, Calls}
-use Rattle.ir_model.specs.Fits.{PointerFits}
+use Rattle.ir_model.specs.Step.{State, On, Back, Reached, Calls, step}
+use Rattle.ir_model.specs.Run.{is_terminator, is_phi, types_of, start_env, functions_of, run_of}
+use Rattle.ir_model.specs.Fits.{PointerFits, Fits}
 
 -- a value of a type's shape, where there are so many objects
 abbrev pub HasShape : ℕ → Ty → Value → Type 0
@@ -58,3 +64,42 @@ CallsKeepShapes m calls =
     (g : Func) → Contains m.items (FuncItem g) → (vs : List Value) (memory : Memory) (left : ℕ) (back : Back) →
     AllZip (λ (p : Param) v. HasShape (length memory) p.ty v) g.params vs → length m.globals ≤ length memory →
     calls g.name vs memory left ≡ On back → BackHasShape g (length memory) back
+
+-- ---- what holds along a run
+
+-- at the start, from arguments that fit
+abbrev pub StartsAreShaped : Type 0
+StartsAreShaped =
+    (m : Module) (f : Func) (args : List Value) (memory : Memory) → Fits m f args memory →
+    IsShaped m f (0 ∷ []) 0 (record { env = start_env f.params args; memory = memory })
+
+-- the instruction of a position of a block of a function of a formed module, on a walk to it, where all that stands is of its shape
+pub record IsReachedAt (m : Module) (f : Func) (walk : List ℕ) (at position : ℕ) (i : Inst) (s : State) : Type 0 where
+  pub formed : IsFormed m
+  pub func : Contains m.items (FuncItem f)
+  pub walks : IsWalk (graph_of f) walk
+  pub ends : EndsAt walk at
+  pub block : Block
+  pub there : slice_get f.blocks at ≡ Some block
+  pub here : slice_get block.insts position ≡ Some i
+  pub no_phi : is_phi i.op ≡ false
+  pub shaped : IsShaped m f walk position s
+
+-- each operand has a value of its type's shape
+abbrev pub OperandsHaveShapes : Type 0
+OperandsHaveShapes =
+    (m : Module) (f : Func) (walk : List ℕ) (at position : ℕ) (i : Inst) (s : State) → IsReachedAt m f walk at position i s →
+    AllZip (HasShape (length s.memory)) (map (type_of (types_of f)) i.opds) (map (value_of s.env) i.opds)
+
+-- a step keeps the shapes of all that stands
+abbrev pub StepsKeepShapes : Type 0
+StepsKeepShapes =
+    (m : Module) (f : Func) (walk : List ℕ) (at position : ℕ) (i : Inst) (r q : Reached) → IsReachedAt m f walk at position i r.state → is_terminator i.op ≡ false →
+    (calls : Calls) → CallsKeepShapes m calls → step (types_of f) calls i r ≡ On q → IsShaped m f walk (position + 1) q.state
+
+-- what a function returns has the shape of its type
+abbrev pub ResultsHaveShapes : Type 0
+ResultsHaveShapes =
+    (m : Module) → IsFormed m → (func : ℕ) (f : Func) → slice_get (functions_of m.items) func ≡ Some f → (args : List Value) (memory after : Memory) →
+    Fits m f args memory → (bound : ℕ) (result : Option Value) → run_of m func args memory bound ≡ Returned result after →
+    ResultHasShape (length after) f.ret result × (length memory ≤ length after)

@@ -17,6 +17,8 @@ ghost use Rattle.ir_model.specs.Step.{Calls, Reached, step};
 ghost use Rattle.ir_model.specs.Run.{run_block, run_of};
 ghost use Rattle.ir_model.specs.CallFree.{plain_run_of};
 ghost use Rattle.ir_model.specs.Refines.{OutcomeRefines, ModuleRefines};
+ghost use Rattle.ir_model.specs.Shapes.{StartsAreShaped, OperandsHaveShapes, StepsKeepShapes, ResultsHaveShapes};
+ghost use Rattle.ir_model.specs.Causes.{UndefinedHasCauses};
 ghost use Rattle.ir_model.specs.Monotone.{WentRefines, ReachedRefines, ExitRefines, CallsRefine};
 
 /// An outcome may stand for itself, and outcomes refine in a chain.
@@ -31,8 +33,9 @@ pub fn modules_refine()
     ensures chain { (a b c : Module) → length b.globals ≤ length c.globals → ModuleRefines a b → ModuleRefines b c → ModuleRefines a c }
 {}
 
-/// A formed module and the same with its ids given anew may stand for each other.
+/// A formed module with its ids given anew is formed, and both may stand for each other.
 pub fn renumbered_refines()
+    ensures formed { (m : Module) → IsFormed m → IsFormed (renumbered m) }
     ensures new { (m : Module) → IsFormed m → ModuleRefines (renumbered m) m }
     ensures old { (m : Module) → IsFormed m → ModuleRefines m (renumbered m) }
 {}
@@ -46,4 +49,20 @@ pub fn runs_are_call_free()
 pub fn steps_are_monotone()
     ensures step { (n : ℕ) (types : Id → Ty) (new old : Calls) → CallsRefine n new old → (i : Inst) (r s : Reached) → ReachedRefines n r s → WentRefines (ReachedRefines n) (step types new i r) (step types old i s) }
     ensures block { (n : ℕ) (types : Id → Ty) (new old : Calls) → CallsRefine n new old → (from : Option ℕ) (b : Option Block) (r s : Reached) → ReachedRefines n r s → WentRefines (ExitRefines n) (run_block types new from r b) (run_block types old from s b) }
+{}
+
+/// In a formed module, from arguments that fit, a run is undefined only where two `noalias` objects meet at the start, or where it comes to
+/// `unreachable`, a division by zero, by poison or without a result, a load or store through poison, out of its object or misaligned, or
+/// a branch or switch on poison; or, as long as calls are not read, to a call.
+pub fn undefined_has_causes()
+    ensures { UndefinedHasCauses }
+{}
+
+/// Along a run of a formed module from arguments that fit, each value that stands has its type's shape, and each pointer names an object
+/// that is there: at the start, and after each step; so have operands, and what is returned.
+pub fn values_keep_their_shapes()
+    ensures start { StartsAreShaped }
+    ensures operands { OperandsHaveShapes }
+    ensures step { StepsKeepShapes }
+    ensures result { ResultsHaveShapes }
 {}

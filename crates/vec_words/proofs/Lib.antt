@@ -1,3 +1,4 @@
 pub mod Pairs
 pub mod Params
 pub mod Places
+pub mod Fitting

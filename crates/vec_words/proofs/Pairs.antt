@@ -1,5 +1,5 @@
 -- Bytes two digits at a time.
-use Rattle.std.proofs.Common.{◌≡◌, ℕ, ◌<◌, Option, Some, None, List, [], ◌∷◌, ◌++◌, length, refl, sym, ap, arith}
+use Rattle.std.proofs.Common.{◌≡◌, ℕ, ◌<◌, Option, Some, None, List, [], ◌∷◌, ◌++◌, length, refl, ap, arith}
 use Rattle.vec_words.specs.Answers.{◌>>=◌}
 use Rattle.vec_words.specs.Hex.{byte_of, pair_of, bytes_behind}
 

@@ -1,5 +1,5 @@
 -- What is said of arguments where parameters are left.
-use Rattle.std.proofs.Common.{◌≡◌, ℕ, ◌<◌, ◌≤◌, Option, Some, None, List, [], ◌∷◌, length, refl, arith}
+use Rattle.std.proofs.Common.{◌≡◌, ℕ, ◌<◌, ◌≤◌, None, List, [], ◌∷◌, length, refl, arith}
 use Rattle.ir_types.specs.declared.func.Param.{Param}
 use Rattle.ir_model.specs.declared.value.Value.{Value}
 use Rattle.vec_words.specs.declared.call.Arg.{Arg}

@@ -1,5 +1,5 @@
 -- The place of a faulty word, command by command.
-use Rattle.std.proofs.Common.{◌≡◌, ℕ, suc, ◌+◌, ◌<◌, ◌≤◌, Bool, true, false, cond, Option, Some, None, Result, Ok, Err, List, [], ◌∷◌, ◌++◌, take, length, bytes_eq, codes, refl, ap, sym, ◌∙◌, subst, arith}
+use Rattle.std.proofs.Common.{◌≡◌, ℕ, suc, ◌+◌, ◌<◌, ◌≤◌, Bool, true, false, cond, Option, Some, None, Result, Ok, Err, List, [], ◌∷◌, ◌++◌, take, length, bytes_eq, codes, refl, ap, ◌∙◌, subst, arith}
 use Rattle.vec_words.specs.declared.commands.Command.{Command}
 use Rattle.vec_words.specs.declared.commands.Command.TheVariants.{Print, Opt, Run}
 use Rattle.vec_words.specs.Numbers.{steps_of, plain_of, number_of, one_more}

@@ -1,7 +1,7 @@
 -- How a call word and the words of globals are spelled.
-use Rattle.std.specs.Prelude.{◌≡◌, refl, ℕ, ℤ, pos, Bool, true, false, cond, Option, Some, None, List, [], ◌∷◌, ◌++◌, bytes_eq, slice_get, codes}
+use Rattle.std.specs.Prelude.{◌≡◌, refl, ℕ, pos, Bool, true, false, cond, Option, Some, None, List, [], ◌∷◌, ◌++◌, bytes_eq, slice_get, codes}
 use Rattle.vec_words.specs.declared.literal.Lit.{Lit}
-use Rattle.vec_words.specs.declared.literal.Lit.TheVariants.{Number, Truth, Poison}
+use Rattle.vec_words.specs.declared.literal.Lit.TheVariants.{Number, Poison}
 use Rattle.vec_words.specs.declared.call.Arg.{Arg}
 use Rattle.vec_words.specs.declared.call.Arg.TheVariants.{One, Zero, Row, Made, Within, Global}
 use Rattle.vec_words.specs.declared.call.Call.{Call}

@@ -1,6 +1,5 @@
 -- The objects of the globals, by the words that say their bytes.
-use Rattle.std.specs.Prelude.{◌≡◌, refl, ℕ, suc, Bool, true, false, ◌&&◌, Option, Some, None, Result, Ok, Err, List, [], ◌∷◌, length, replicate, nat_lt, slice_get, slice_set}
-use Rattle.vec_words.specs.declared.global.Contents.{Contents}
+use Rattle.std.specs.Prelude.{ℕ, suc, Bool, true, false, ◌&&◌, Option, Some, None, Result, Ok, Err, List, [], ◌∷◌, length, replicate, nat_lt, slice_get, slice_set}
 use Rattle.vec_words.specs.declared.global.Given.{Given}
 use Rattle.vec_words.specs.Answers.{◌>>=◌, when}
 use Rattle.vec_words.specs.Calls.{contents_of}

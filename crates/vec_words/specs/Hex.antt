@@ -1,5 +1,5 @@
 -- Bytes as pairs of hexadecimal digits, and `??` for poison: read and written.
-use Rattle.std.specs.Prelude.{◌≡◌, refl, ℕ, ◌+◌, ◌-◌, ◌*◌, ◌/◌, ◌%◌, ◌&&◌, cond, Option, Some, None, List, [], ◌∷◌, ◌++◌, nat_eq, nat_lt, nat_le, codes}
+use Rattle.std.specs.Prelude.{◌≡◌, refl, ℕ, ◌+◌, ◌-◌, ◌*◌, ◌/◌, ◌%◌, ◌&&◌, cond, Option, Some, None, List, [], ◌∷◌, ◌++◌, length, nat_eq, nat_lt, nat_le, codes}
 use Rattle.vec_words.specs.Answers.{◌>>=◌, when}
 
 -- a lower-case hexadecimal digit
@@ -21,8 +21,9 @@ bytes_behind before [] = Some before
 bytes_behind before (a ∷ []) = None
 bytes_behind before (a ∷ b ∷ t) = byte_of a b >>= (λ x. bytes_behind (before ++ x ∷ []) t)
 
+-- the bytes that a text says, where they are at most 2^47, as many as an object may have
 abbrev pub bytes_of : List ℕ → Option (List (Option ℕ))
-bytes_of t = bytes_behind [] t
+bytes_of t = cond (nat_lt 281474976710656 (length t)) None (bytes_behind [] t)
 
 -- the digit of a number below 16
 abbrev pub digit_text : ℕ → ℕ

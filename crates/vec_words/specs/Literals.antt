@@ -1,5 +1,5 @@
 -- Literals of a call word: how they are spelled, and which lane of a width each is.
-use Rattle.std.specs.Prelude.{◌≡◌, refl, ℕ, ◌-◌, ◌*◌, ◌^◌, Bool, true, false, cond, Option, Some, None, List, [], ◌∷◌, ◌++◌, bytes_eq, nat_eq, nat_lt, nat_le, codes}
+use Rattle.std.specs.Prelude.{◌≡◌, refl, ℕ, ◌-◌, ◌*◌, ◌^◌, true, false, cond, Option, Some, None, List, [], ◌∷◌, ◌++◌, bytes_eq, nat_eq, nat_lt, nat_le, codes}
 use Rattle.vec_words.specs.declared.literal.Lit.{Lit}
 use Rattle.vec_words.specs.declared.literal.Lit.TheVariants.{Number, Truth, Poison}
 use Rattle.vec_words.specs.Answers.{◌>>=◌, when}

@@ -1,10 +1,10 @@
 -- How a run starts: the function, its arguments and the memory that the words behind the options say.
 -- Objects are numbered: those of the globals in the module's order, and then those that arguments make, in order.
-use Rattle.std.specs.Prelude.{◌≡◌, refl, ℕ, suc, cond, Option, Some, None, Result, Ok, Err, List, [], ◌∷◌, ◌++◌, length, bytes_eq}
+use Rattle.std.specs.Prelude.{◌≡◌, ℕ, suc, cond, Option, Some, None, Result, Ok, Err, List, [], ◌∷◌, ◌++◌, length, bytes_eq, slice_get}
 use Rattle.ir_types.specs.declared.func.Func.{Func}
 use Rattle.ir_types.specs.declared.module.Module.{Module}
-use Rattle.ir_model.specs.declared.value.Value.{Value}
 use Rattle.ir_model.specs.Run.{functions_of}
+use Rattle.ir_model.specs.Fits.{Fits}
 use Rattle.vec_words.specs.declared.call.Arg.{Arg}
 use Rattle.vec_words.specs.declared.call.Arg.TheVariants.{Made}
 use Rattle.vec_words.specs.declared.global.Given.{Given}
@@ -46,3 +46,9 @@ start_called m ws (Some c) = started c (with_words m.globals (untouched (length 
 abbrev pub start_of : Module → List (List ℕ) → Result Start ℕ
 start_of m [] = Err 0
 start_of m (c ∷ ws) = start_called m ws (called_in m c)
+
+-- the function of the start's number is there, and its arguments and its memory fit it
+pub record IsFit (m : Module) (s : Start) : Type 0 where
+  pub func : Func
+  pub found : slice_get (functions_of m.items) s.func ≡ Some func
+  pub fits : Fits m func s.args s.memory

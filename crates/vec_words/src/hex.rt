@@ -2,7 +2,7 @@
 //!
 //! Reading stops at what is no pair. Writing fails for want of memory alone, and may leave a part of the text behind.
 
-ghost use Rattle.std.specs.Prelude.{◌≡◌, ◌++◌, ◌<◌, IfOk, IfSome, OnOk, length};
+ghost use Rattle.std.specs.Prelude.{◌≡◌, ◌++◌, ◌<◌, IfOk, IfSome, OnOk, [], length};
 ghost use Rattle.vec_words.specs.Answers.{Gives};
 ghost use Rattle.vec_words.specs.Hex as hex;
 
@@ -54,10 +54,10 @@ fn pair(text: &[u8]) -> Result<(Option<u8>, &[u8]), Stop>
     }
 }
 
-/// The bytes that a text says.
+/// The bytes that a text says, however many.
 #[tactic(auto, using(crate::proofs::Pairs::pair_first, crate::proofs::Pairs::pair_none))]
-pub(crate) fn bytes(alloc: Global, text: &[u8]) -> Result<Object, Stop>
-    ensures { Gives (λ x. x) result (hex.bytes_of text.now) }
+fn all_bytes(alloc: Global, text: &[u8]) -> Result<Object, Stop>
+    ensures { Gives (λ x. x) result (hex.bytes_behind [] text.now) }
 {
     let mut found = Object::new(alloc);
     let mut rest = text;
@@ -67,6 +67,16 @@ pub(crate) fn bytes(alloc: Global, text: &[u8]) -> Result<Object, Stop>
         rest = more;
     }
     Ok(found)
+}
+
+/// The bytes that a text says, where they are no more than an object has.
+pub(crate) fn bytes(alloc: Global, text: &[u8]) -> Result<Object, Stop>
+    ensures { Gives (λ x. x) result (hex.bytes_of text.now) }
+{
+    if text.len() > 281_474_976_710_656 {
+        return Err(Stop::Unfit);
+    }
+    all_bytes(alloc, text)
 }
 
 /// The digit of a number below 16.

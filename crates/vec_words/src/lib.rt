@@ -22,7 +22,7 @@ mod starts;
 mod words;
 
 pub use commands::Command;
-pub use laws::place_rule;
+pub use laws::{place_rule, starts_fit};
 pub use outcome::outcome_text;
 pub use refusal::WordsRefusal;
 pub use run_words::start;

@@ -1,5 +1,5 @@
 -- Where parameters are left, nothing fits.
-use Rattle.std.proofs.Common.{◌≡◌, sym, ◌∙◌}
+use Rattle.std.proofs.Common.{sym, ◌∙◌}
 use Rattle.vec_words.proofs.Params.{too_few}
 use Rattle.vec_words.proofs.arguments.values.Goals as goal
 
