@@ -18,7 +18,7 @@ use ir_read::{ReadRefusal, read};
 use ir_types::{Block, Bytes, Func, Id, Inst, Item, Module, Numbers, Opd};
 use ir_types_check::{ResolveRefusal, Resolved, resolve};
 use std::alloc::{AllocError, Global};
-use vx_list::{Equal, Seq};
+use vx_list::Equal;
 
 /// The text as a draft. The text is dropped.
 fn drafted(alloc: Global, bytes: Vec<u8>) -> Result<Draft, Fault>
@@ -93,7 +93,7 @@ fn shown_operand(alloc: Global, func: &Func, inst: &Inst, slot: u32) -> Result<B
 {
     match inst.opds.as_slice().get(slot as usize) {
         Some(Opd::Val(id)) => shown_name(alloc, func, *id),
-        _ => Ok(Seq::new(alloc)),
+        _ => Ok(Bytes::new(alloc)),
     }
 }
 
@@ -108,7 +108,7 @@ fn operand_in(alloc: Global, id: Id, slot: u32, items: &[Item]) -> Result<Bytes,
             }
         }
     }
-    Ok(Seq::new(alloc))
+    Ok(Bytes::new(alloc))
 }
 
 /// The line of an instruction that was read.
