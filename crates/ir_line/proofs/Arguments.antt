@@ -23,7 +23,7 @@ read_one a line b bound rest g h = rw (g, h) refl
 pub one_turn : (i j : Arguments) (a : Arg × List ℕ) (line : List ℕ) (bound fewer rest next : List Token) (whole : Option (Arguments × List Token)) → with_arguments i (arguments_within bound line rest) ≡ whole → 1 ≤ length bound → fewer ≡ drop 1 bound → next ≡ drop 1 (behind_argument line rest) → argument line (argument_at line rest) ≡ Some a → is_first (codes ",") (words line (behind_argument line rest)) ≡ true → j ≡ record { args = i.args ++ a.0 ∷ []; attrs = i.attrs ++ a.1 ∷ [] } → with_arguments j (arguments_within fewer line next) ≡ whole
 one_turn i j a line [] fewer rest next whole e some f n g h x = absurd (not_some some)
   where
-  not_some : 1 ≤ 0 → ⊥
-  not_some h = omega (arith, h)
+    not_some : 1 ≤ 0 → ⊥
+    not_some h = omega (arith, h)
 one_turn i j a line (b ∷ bound) fewer rest next whole e some f n g h x =
     rw (x, f, n) (with_one_more i a (arguments_within bound line (drop 1 (behind_argument line rest))) ∙ ap (with_arguments i) (sym (read_one a line b bound rest g h)) ∙ e)

@@ -238,7 +238,7 @@ fn select(alloc: Global, name: Bytes, line: &[u8], tokens: &[Token]) -> Result<L
 }
 
 /// A lane of a vector.
-#[tactic(auto, unfolding(crate::specs::Forms::extract))]
+#[tactic(auto, using(crate::proofs::LineEnds::goes_on), unfolding(crate::specs::Forms::extract))]
 fn extract(alloc: Global, name: Bytes, line: &[u8], tokens: &[Token]) -> Result<Line, Stop>
     ensures { Gives (λ x. x) result (read forms.line_of (forms.extract name) (words line.now tokens.now)) }
 {
@@ -362,7 +362,7 @@ fn step(alloc: Global, name: Bytes, line: &[u8], tokens: &[Token]) -> Result<Lin
 }
 
 /// A load.
-#[tactic(auto, unfolding(crate::specs::Forms::load))]
+#[tactic(auto, using(crate::proofs::LineEnds::goes_on), unfolding(crate::specs::Forms::load))]
 fn load(alloc: Global, name: Bytes, line: &[u8], tokens: &[Token]) -> Result<Line, Stop>
     ensures { Gives (λ x. x) result (read forms.line_of (forms.load name) (words line.now tokens.now)) }
 {
