@@ -1,4 +1,4 @@
-//! Small texts, line by line, and what they are as modules: each rule with the line that it names.
+//! Small texts, line by line, and what they are as modules: the ids and their lines, and the rules of calls, which no text reaches yet.
 
 use super::*;
 use ir_lex::tokens;
@@ -92,24 +92,6 @@ fn draft(alloc: Global, lines: &[&[u8]]) -> Result<Draft, Fail> {
     Ok(Draft { items })
 }
 
-fn is_twice(
-    rt: &impl Abort,
-    alloc: Global,
-    lines: &[&[u8]],
-    at: u32,
-    known_by: &[u8],
-) -> Result<(), Fail> {
-    let whole = resolve(alloc, draft(alloc, lines)?);
-    match &whole {
-        Err(ResolveRefusal::TwiceDefined { line, name }) => {
-            assert_eq!(rt; *line, at);
-            assert!(rt; name.as_slice() == known_by);
-        }
-        _ => assert!(rt; false),
-    }
-    Ok(())
-}
-
 fn is_unknown(
     rt: &impl Abort,
     alloc: Global,
@@ -149,39 +131,6 @@ fn is_fine(rt: &impl Abort, alloc: Global, lines: &[&[u8]], at: &[u32]) -> Resul
 }
 
 #[test]
-fn names_that_are_defined_twice(rt: HostRuntime) -> Result<(), Fail> {
-    let alloc = rt.alloc();
-    // a symbol that is no global, in front of what is unknown and ill typed
-    is_twice(
-        &rt,
-        alloc,
-        &[
-            b"define i8 @a(i8 %x) {",
-            b"  br label %y",
-            b"}",
-            b"@b = alias i8, ptr @c",
-            b"@b = global i8 0",
-        ],
-        5,
-        b"@b",
-    )?;
-    // the number of an unnamed block
-    is_twice(
-        &rt,
-        alloc,
-        &[
-            b"define void @a() {",
-            b"  ret void",
-            b"0:",
-            b"  ret void",
-            b"}",
-        ],
-        3,
-        b"%0",
-    )
-}
-
-#[test]
 fn names_that_are_unknown(rt: HostRuntime) -> Result<(), Fail> {
     let alloc = rt.alloc();
     // a callee in front of its argument, behind what is ill typed
@@ -197,23 +146,6 @@ fn names_that_are_unknown(rt: HostRuntime) -> Result<(), Fail> {
         ],
         3,
         b"@k",
-    )?;
-    // a case's label, at its own line
-    is_unknown(
-        &rt,
-        alloc,
-        &[
-            b"define void @a(i8 %x) {",
-            b"  switch i8 %x, label %b [",
-            b"    i8 1, label %b",
-            b"    i8 2, label %x",
-            b"  ]",
-            b"b:",
-            b"  ret void",
-            b"}",
-        ],
-        4,
-        b"%x",
     )
 }
 
@@ -235,36 +167,6 @@ fn lines_that_are_ill_typed(rt: HostRuntime) -> Result<(), Fail> {
             b"}",
         ],
         6,
-    )?;
-    // a case twice, by value
-    is_ill(
-        &rt,
-        alloc,
-        &[
-            b"define void @a(i8 %x) {",
-            b"  switch i8 %x, label %b [",
-            b"    i8 255, label %b",
-            b"    i8 -1, label %b",
-            b"  ]",
-            b"b:",
-            b"  ret void",
-            b"}",
-        ],
-        4,
-    )?;
-    // a phi that brings two operands on two edges of one block
-    is_ill(
-        &rt,
-        alloc,
-        &[
-            b"define void @a(i1 %c) {",
-            b"  br i1 %c, label %b, label %b",
-            b"b:",
-            b"  %x = phi i8 [ 1, %0 ], [ 2, %0 ]",
-            b"  ret void",
-            b"}",
-        ],
-        4,
     )
 }
 
