@@ -1,4 +1,4 @@
-//! What no text reaches yet: calls, and the lines of ids, on small texts that are read line by line.
+//! Small texts, line by line, and what they are as modules: the ids and their lines, and the rules of calls, which no text reaches yet.
 
 use super::*;
 use ir_lex::tokens;
@@ -22,9 +22,9 @@ fn form_of(alloc: Global, inside: bool, line: &[u8], number: u32) -> Result<Line
     }
     let words = tokens(alloc, line, number)?;
     if inside {
-        Ok(body_line(alloc, line, words.as_slice(), number)?)
+        Ok(body_line(alloc, line, &words, number)?)
     } else {
-        Ok(module_line(alloc, line, words.as_slice(), number)?)
+        Ok(module_line(alloc, line, &words, number)?)
     }
 }
 
@@ -131,7 +131,7 @@ fn is_fine(rt: &impl Abort, alloc: Global, lines: &[&[u8]], at: &[u32]) -> Resul
 }
 
 #[test]
-fn a_callee_that_is_unknown(rt: HostRuntime) -> Result<(), Fail> {
+fn names_that_are_unknown(rt: HostRuntime) -> Result<(), Fail> {
     let alloc = rt.alloc();
     // a callee in front of its argument, behind what is ill typed
     is_unknown(
@@ -150,7 +150,7 @@ fn a_callee_that_is_unknown(rt: HostRuntime) -> Result<(), Fail> {
 }
 
 #[test]
-fn a_call_that_is_ill_typed(rt: HostRuntime) -> Result<(), Fail> {
+fn lines_that_are_ill_typed(rt: HostRuntime) -> Result<(), Fail> {
     let alloc = rt.alloc();
     // a call with another type
     is_ill(
