@@ -26,16 +26,16 @@ use Rattle.ir_print.specs.Instructions as text
 use Rattle.ir_print.specs.Text.{param_text, more_params, params_text, head_text, header_text, label_line, next_block, more_blocks, blocks_text, func_with, func_text, item_text, is_function, gap_text, more_items, items_text, text_of}
 
 module _ (ids : List Id) where
-  abbrev New : Id → Id
+  abbrev pub New : Id → Id
   New = new_id 0 ids
 
   -- ---- names
 
-  abbrev NewNamed : Named → Named
+  abbrev pub NewNamed : Named → Named
   NewNamed (Value id ty name) = Value (New id) ty name
   NewNamed (Label name) = Label name
 
-  abbrev NewLocal : Local → Local
+  abbrev pub NewLocal : Local → Local
   NewLocal l = record { id = New l.id; ty = l.ty; text = l.text }
 
   result_named_new : (a b : Bool) (i : Inst) (rest : List Named) → result_named a b (new_inst ids i) (map NewNamed rest) ≡ map NewNamed (result_named a b i rest)
@@ -57,7 +57,7 @@ module _ (ids : List Id) where
   params_named_new [] rest = refl
   params_named_new (p ∷ ps) rest = ap (λ xs. Value (New p.id) p.ty p.name ∷ xs) (params_named_new ps rest)
 
-  named_new : (f : Func) → named_of (new_func ids f) ≡ map NewNamed (named_of f)
+  pub named_new : (f : Func) → named_of (new_func ids f) ≡ map NewNamed (named_of f)
   named_new f = ap (params_named (map (new_param ids) f.params)) (blocks_named_new f.blocks) ∙ params_named_new f.params (blocks_named f.blocks)
 
   locals_new : (n : ℕ) (xs : List Named) → locals_from n (map NewNamed xs) ≡ map NewLocal (locals_from n xs)
@@ -113,11 +113,11 @@ module _ (ids : List Id) where
       by_test false = refl
 
   -- names that show the same: the labels, and each value under its new id
-  record Alike (now before : Names) : Type 0 where
-    labels : now.labels ≡ before.labels
-    found : (x : Id) → In ids x → local_of (New x) now.locals ≡ option_map NewLocal (local_of x before.locals)
+  pub record Alike (now before : Names) : Type 0 where
+    pub labels : now.labels ≡ before.labels
+    pub found : (x : Id) → In ids x → local_of (New x) now.locals ≡ option_map NewLocal (local_of x before.locals)
 
-  names_alike : (f : Func) → FuncIn ids f → Alike (names_of (new_func ids f)) (names_of f)
+  pub names_alike : (f : Func) → FuncIn ids f → Alike (names_of (new_func ids f)) (names_of f)
   names_alike f h = record {
     labels = ap (labels_from 0) (named_new f) ∙ labels_new 0 (named_of f);
     found = λ x p.
@@ -134,7 +134,7 @@ module _ (ids : List Id) where
   same_type (Some l) = refl
 
   module _ (now before : Names) (gs : List (List ℕ)) (alike : Alike now before) where
-    shown_local : (x : Id) → In ids x → local_text (local_of (New x) now.locals) ≡ local_text (local_of x before.locals)
+    pub shown_local : (x : Id) → In ids x → local_text (local_of (New x) now.locals) ≡ local_text (local_of x before.locals)
     shown_local x p = ap local_text (alike.found x p) ∙ same_text (local_of x before.locals)
 
     opd_same : (o : Opd) → OpdIn ids o → opd_text now gs (new_opd ids o) ≡ opd_text before gs o
@@ -142,7 +142,7 @@ module _ (ids : List Id) where
     opd_same (Lit l) p = refl
     opd_same (Sym g) p = refl
 
-    ty_same : (o : Opd) → OpdIn ids o → opd_ty now (new_opd ids o) ≡ opd_ty before o
+    pub ty_same : (o : Opd) → OpdIn ids o → opd_ty now (new_opd ids o) ≡ opd_ty before o
     ty_same (Val x) p = ap local_ty (alike.found x p) ∙ same_type (local_of x before.locals)
     ty_same (Lit l) p = refl
     ty_same (Sym g) p = refl
