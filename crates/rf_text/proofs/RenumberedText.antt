@@ -1,6 +1,5 @@
 -- The text of a module does not tell its ids: with its ids given anew the text is the same.
-use Rattle.std.proofs.Common.{◌≡◌, refl, sym, ap, ◌∙◌, ℕ, zero, suc, ◌+◌, Bool, true, false, Option, None, Some, List, [], ◌∷◌, ◌++◌, map, slice_get, option_map, if◌then◌else◌, codes}
-use Rattle.std.proofs.lemmas.Option.{slice_get-map}
+use Rattle.std.proofs.Common.{◌≡◌, refl, ap, ◌∙◌, ℕ, zero, suc, ◌+◌, Bool, true, false, Option, None, Some, List, [], ◌∷◌, ◌++◌, map, slice_get, option_map, if◌then◌else◌, codes}
 use Rattle.ir_types.specs.declared.id.Id.{Id}
 use Rattle.ir_types.specs.declared.ty.Ty.{Ty}
 use Rattle.ir_types.specs.declared.opd.Opd.{Opd}
@@ -23,7 +22,7 @@ use Rattle.ir_print.specs.Literals.{ty_text}
 use Rattle.ir_print.specs.Names.{Named, Value, Label, is_store, is_void, result_named, insts_named, blocks_named, params_named, named_of, shown, counted, locals_from, labels_from, Names, names_of, same_id, last_of, local_of}
 use Rattle.ir_print.specs.Operands.{spaced, local_text, local_ty, opd_text, opd_ty, typed_text, bare_at, typed_at, ty_at, block_text, label_text}
 use Rattle.ir_print.specs.Instructions as text
-use Rattle.ir_print.specs.Text.{param_text, more_params, params_text, head_text, header_text, label_line, next_block, more_blocks, blocks_text, func_with, func_text, item_text, is_function, gap_text, more_items, items_text, text_of}
+use Rattle.ir_print.specs.Text.{param_text, more_params, params_text, head_text, header_text, label_line, next_block, more_blocks, blocks_text, func_with, item_text, is_function, gap_text, more_items, items_text, text_of}
 
 module _ (ids : List Id) where
   abbrev pub New : Id → Id
