@@ -1,6 +1,5 @@
 -- Ids of a formed module stand once: the type that is found for the id of an instruction is the instruction's.
-use Rattle.std.proofs.Common.{◌≡◌, refl, sym, ap, ◌∙◌, subst, ℕ, zero, suc, ◌<◌, Bool, true, false, ◌||◌, Option, None, Some, List, [], ◌∷◌, ◌++◌, length, map, cond, get_or, slice_get, if◌then◌else◌, arith}
-use Rattle.std.specs.List.{AllPairs}
+use Rattle.std.proofs.Common.{◌≡◌, refl, sym, ap, ◌∙◌, subst, ℕ, zero, suc, Bool, true, false, ◌||◌, Option, None, Some, List, [], ◌∷◌, ◌++◌, map, cond, slice_get, if◌then◌else◌}
 use Rattle.ir_types.specs.declared.id.Id.{Id}
 use Rattle.ir_types.specs.declared.ty.Ty.{Ty}
 use Rattle.ir_types.specs.declared.op.Op.{Op}
@@ -15,25 +14,7 @@ use Rattle.ir_types.specs.Typed.{is_value}
 use Rattle.ir_types.specs.Formed.{given_ty, ty_in_insts, or_else, ty_in_blocks, ty_in_params, value_ty, block_ids, item_ids, ids_of_items}
 use Rattle.ir_model.specs.Values.{same_id}
 use Rattle.ir_model.specs.Run.{typed_params, typed_insts, typed_blocks, types_of}
-use Rattle.ir_types.proofs.Among.{among, among_left, among_right, same_is, same_itself, swapped}
-
--- each id once
-abbrev pub Once : List Id → Type 0
-Once [] = Unit {0}
-Once (x ∷ xs) = (among xs x ≡ false) × Once xs
-
-not_among : (x : Id) (xs : List Id) → ((k : ℕ) (d : Id) → k < length xs → x ≡ get_or xs k d → ⊥) → among xs x ≡ false
-not_among x [] h = refl
-not_among x (y ∷ ys) h = by_test (same_id y x) refl (not_among x ys (λ k d less e. h (suc k) d (omega arith) e))
-  where
-    by_test : (b : Bool) → same_id y x ≡ b → among ys x ≡ false → (b || among ys x) ≡ false
-    by_test true e rest = elim (h 0 y (omega arith) (sym (same_is y x e))) [ ]
-    by_test false e rest = rest
-
-pub once_of_pairs : (xs : List Id) → AllPairs (λ (a b : Id). a ≡ b → ⊥) xs → Once xs
-once_of_pairs [] h = tt
-once_of_pairs (x ∷ xs) h =
-    (not_among x xs (λ k d less e. h 0 (suc k) d (omega arith) (omega arith) e), once_of_pairs xs (λ i j d less more. h (suc i) (suc j) d (omega arith) (omega arith)))
+use Rattle.ir_types.proofs.Among.{Once, among, among_left, among_right, same_is, same_itself, swapped}
 
 true_false : true ≡ false → ⊥
 true_false e = cc

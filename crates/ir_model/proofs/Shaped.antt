@@ -32,7 +32,8 @@ use Rattle.ir_types.proofs.Formed.{Every, every_of_all, IsValued, typed_valued}
 use Rattle.ir_types.proofs.Among.{same_is, swapped}
 use Rattle.ir_model.proofs.Rows.{lane_arg, no_arg}
 use Rattle.ir_model.proofs.Acts.{same_types}
-use Rattle.ir_model.proofs.Ids.{Once, value_type, types_agree}
+use Rattle.ir_types.proofs.Among.{Once}
+use Rattle.ir_model.proofs.Ids.{value_type, types_agree}
 use Rattle.ir_model.proofs.Walked.{stands_next, insts_found, at_contained}
 
 true_false : true ≡ false → ⊥

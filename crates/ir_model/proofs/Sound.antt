@@ -34,7 +34,8 @@ use Rattle.ir_model.specs.Causes.{IsCause, CameTo, MeetsInsts, MeetsFrom, MeetsB
 use Rattle.ir_types.proofs.Formed.{Every, every_of_all, every_at, IsValued}
 use Rattle.ir_types.proofs.Among.{swapped}
 use Rattle.ir_model.proofs.Acts.{BackRow, acts}
-use Rattle.ir_model.proofs.Ids.{Once, once_of_pairs, func_once}
+use Rattle.ir_types.proofs.Among.{Once, once_of_pairs}
+use Rattle.ir_model.proofs.Ids.{func_once}
 use Rattle.ir_model.proofs.Walked.{stands_enter, stands_start, walk_more, ends_more, drop_first, drop_length, ends_last, ends_rest, targets_found, insts_found, targets_last, length_graph, contained_at, at_contained, counted_at, Arm, arm_found}
 use Rattle.ir_model.proofs.Shaped.{shape_more, result_shape, OpdShape, opd_shape, OpdsShape, inst_shape, next_shaped, LeftShape, leaves, gives_nothing}
 

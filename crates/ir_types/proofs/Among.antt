@@ -1,5 +1,6 @@
 -- The ids of a module: whether an id is one of them, and that in a formed module each operand names one.
-use Rattle.std.proofs.Common.{◌≡◌, refl, sym, ap, ◌∙◌, subst, ℕ, suc, ◌+◌, ◌<◌, ◌≤◌, Bool, true, false, ◌&&◌, ◌||◌, Option, None, Some, List, [], ◌∷◌, ◌++◌, map, cond, nat_eq, slice_get, if◌then◌else◌, ◌⊎◌, inl, inr, arith}
+use Rattle.std.proofs.Common.{◌≡◌, refl, sym, ap, ◌∙◌, subst, ℕ, suc, ◌+◌, ◌<◌, ◌≤◌, Bool, true, false, ◌&&◌, ◌||◌, Option, None, Some, List, [], ◌∷◌, ◌++◌, map, cond, nat_eq, slice_get, if◌then◌else◌, ◌⊎◌, inl, inr, arith, get_or, length}
+use Rattle.std.specs.List.{AllPairs}
 use Rattle.std.proofs.lemmas.Bool.Decides.{nat_tests}
 use Rattle.ir_types.specs.declared.id.Id.{Id}
 use Rattle.ir_types.specs.declared.ty.Ty.{Ty}
@@ -103,6 +104,24 @@ new_apart k (z ∷ zs) x y hx hy = by_test (same_id z x) (same_id z y) refl refl
     by_test false true e f p q more =
         swapped (new_id (k + 1) zs x) first ∙ later x p ∙ sym (swapped x y ∙ ap (λ v. same_id v x) (sym (same_is z y f)) ∙ e)
     by_test false false e f p q more = more p q
+
+-- each id once
+abbrev pub Once : List Id → Type 0
+Once [] = Unit {0}
+Once (x ∷ xs) = (among xs x ≡ false) × Once xs
+
+pub not_among : (x : Id) (xs : List Id) → ((k : ℕ) (d : Id) → k < length xs → x ≡ get_or xs k d → ⊥) → among xs x ≡ false
+not_among x [] h = refl
+not_among x (y ∷ ys) h = by_test (same_id y x) refl (not_among x ys (λ k d less e. h (suc k) d (omega arith) e))
+  where
+    by_test : (b : Bool) → same_id y x ≡ b → among ys x ≡ false → (b || among ys x) ≡ false
+    by_test true e rest = elim (h 0 y (omega arith) (sym (same_is y x e))) [ ]
+    by_test false e rest = rest
+
+pub once_of_pairs : (xs : List Id) → AllPairs (λ (a b : Id). a ≡ b → ⊥) xs → Once xs
+once_of_pairs [] h = tt
+once_of_pairs (x ∷ xs) h =
+    (not_among x xs (λ k d less e. h 0 (suc k) d (omega arith) (omega arith) e), once_of_pairs xs (λ i j d less more. h (suc i) (suc j) d (omega arith) (omega arith)))
 
 module _ (ids : List Id) where
   abbrev pub In : Id → Type 0

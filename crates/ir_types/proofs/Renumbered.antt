@@ -41,7 +41,7 @@ true_false : true ≡ false → ⊥
 true_false e = cc
 
 module _ (ids : List Id) where
-  abbrev New : Id → Id
+  abbrev pub New : Id → Id
   New = new_id 0 ids
 
   -- ---- types of ids
@@ -283,7 +283,7 @@ module _ (ids : List Id) where
       ap (λ xs. xs ++ block_ids (map (new_block ids) f.blocks)) (params_ids f.params) ∙ ap (λ xs. map New (map (λ (p : Param). p.id) f.params) ++ xs) (blocks_ids f.blocks)
       ∙ sym (map-append New (map (λ (p : Param). p.id) f.params) (block_ids f.blocks))
 
-  items_new_ids : (items : List Item) → ids_of_items (map (new_item ids) items) ≡ map New (ids_of_items items)
+  pub items_new_ids : (items : List Item) → ids_of_items (map (new_item ids) items) ≡ map New (ids_of_items items)
   items_new_ids [] = refl
   items_new_ids (i ∷ items) =
       ap (λ xs. xs ++ ids_of_items (map (new_item ids) items)) (item_new_ids i) ∙ ap (λ xs. map New (item_ids i) ++ xs) (items_new_ids items)

@@ -48,6 +48,7 @@ pub mod ReadableItems
 pub mod ReadableLines
 pub mod ReadableModule
 pub mod ReadableNames
+pub mod RenumberedForms
 pub mod RenumberedText
 pub mod Renumbering
 pub mod SpelledBuilt

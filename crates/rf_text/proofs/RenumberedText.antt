@@ -1,6 +1,5 @@
 -- The text of a module does not tell its ids: with its ids given anew the text is the same.
-use Rattle.std.proofs.Common.{◌≡◌, refl, sym, ap, ◌∙◌, ℕ, zero, suc, ◌+◌, Bool, true, false, Option, None, Some, List, [], ◌∷◌, ◌++◌, map, slice_get, option_map, if◌then◌else◌, codes}
-use Rattle.std.proofs.lemmas.Option.{slice_get-map}
+use Rattle.std.proofs.Common.{◌≡◌, refl, ap, ◌∙◌, ℕ, zero, suc, ◌+◌, Bool, true, false, Option, None, Some, List, [], ◌∷◌, ◌++◌, map, slice_get, option_map, if◌then◌else◌, codes}
 use Rattle.ir_types.specs.declared.id.Id.{Id}
 use Rattle.ir_types.specs.declared.ty.Ty.{Ty}
 use Rattle.ir_types.specs.declared.opd.Opd.{Opd}
@@ -23,19 +22,19 @@ use Rattle.ir_print.specs.Literals.{ty_text}
 use Rattle.ir_print.specs.Names.{Named, Value, Label, is_store, is_void, result_named, insts_named, blocks_named, params_named, named_of, shown, counted, locals_from, labels_from, Names, names_of, same_id, last_of, local_of}
 use Rattle.ir_print.specs.Operands.{spaced, local_text, local_ty, opd_text, opd_ty, typed_text, bare_at, typed_at, ty_at, block_text, label_text}
 use Rattle.ir_print.specs.Instructions as text
-use Rattle.ir_print.specs.Text.{param_text, more_params, params_text, head_text, header_text, label_line, next_block, more_blocks, blocks_text, func_with, func_text, item_text, is_function, gap_text, more_items, items_text, text_of}
+use Rattle.ir_print.specs.Text.{param_text, more_params, params_text, head_text, header_text, label_line, next_block, more_blocks, blocks_text, func_with, item_text, is_function, gap_text, more_items, items_text, text_of}
 
 module _ (ids : List Id) where
-  abbrev New : Id → Id
+  abbrev pub New : Id → Id
   New = new_id 0 ids
 
   -- ---- names
 
-  abbrev NewNamed : Named → Named
+  abbrev pub NewNamed : Named → Named
   NewNamed (Value id ty name) = Value (New id) ty name
   NewNamed (Label name) = Label name
 
-  abbrev NewLocal : Local → Local
+  abbrev pub NewLocal : Local → Local
   NewLocal l = record { id = New l.id; ty = l.ty; text = l.text }
 
   result_named_new : (a b : Bool) (i : Inst) (rest : List Named) → result_named a b (new_inst ids i) (map NewNamed rest) ≡ map NewNamed (result_named a b i rest)
@@ -57,7 +56,7 @@ module _ (ids : List Id) where
   params_named_new [] rest = refl
   params_named_new (p ∷ ps) rest = ap (λ xs. Value (New p.id) p.ty p.name ∷ xs) (params_named_new ps rest)
 
-  named_new : (f : Func) → named_of (new_func ids f) ≡ map NewNamed (named_of f)
+  pub named_new : (f : Func) → named_of (new_func ids f) ≡ map NewNamed (named_of f)
   named_new f = ap (params_named (map (new_param ids) f.params)) (blocks_named_new f.blocks) ∙ params_named_new f.params (blocks_named f.blocks)
 
   locals_new : (n : ℕ) (xs : List Named) → locals_from n (map NewNamed xs) ≡ map NewLocal (locals_from n xs)
@@ -113,11 +112,11 @@ module _ (ids : List Id) where
       by_test false = refl
 
   -- names that show the same: the labels, and each value under its new id
-  record Alike (now before : Names) : Type 0 where
-    labels : now.labels ≡ before.labels
-    found : (x : Id) → In ids x → local_of (New x) now.locals ≡ option_map NewLocal (local_of x before.locals)
+  pub record Alike (now before : Names) : Type 0 where
+    pub labels : now.labels ≡ before.labels
+    pub found : (x : Id) → In ids x → local_of (New x) now.locals ≡ option_map NewLocal (local_of x before.locals)
 
-  names_alike : (f : Func) → FuncIn ids f → Alike (names_of (new_func ids f)) (names_of f)
+  pub names_alike : (f : Func) → FuncIn ids f → Alike (names_of (new_func ids f)) (names_of f)
   names_alike f h = record {
     labels = ap (labels_from 0) (named_new f) ∙ labels_new 0 (named_of f);
     found = λ x p.
@@ -134,7 +133,7 @@ module _ (ids : List Id) where
   same_type (Some l) = refl
 
   module _ (now before : Names) (gs : List (List ℕ)) (alike : Alike now before) where
-    shown_local : (x : Id) → In ids x → local_text (local_of (New x) now.locals) ≡ local_text (local_of x before.locals)
+    pub shown_local : (x : Id) → In ids x → local_text (local_of (New x) now.locals) ≡ local_text (local_of x before.locals)
     shown_local x p = ap local_text (alike.found x p) ∙ same_text (local_of x before.locals)
 
     opd_same : (o : Opd) → OpdIn ids o → opd_text now gs (new_opd ids o) ≡ opd_text before gs o
@@ -142,7 +141,7 @@ module _ (ids : List Id) where
     opd_same (Lit l) p = refl
     opd_same (Sym g) p = refl
 
-    ty_same : (o : Opd) → OpdIn ids o → opd_ty now (new_opd ids o) ≡ opd_ty before o
+    pub ty_same : (o : Opd) → OpdIn ids o → opd_ty now (new_opd ids o) ≡ opd_ty before o
     ty_same (Val x) p = ap local_ty (alike.found x p) ∙ same_type (local_of x before.locals)
     ty_same (Lit l) p = refl
     ty_same (Sym g) p = refl

@@ -15,3 +15,7 @@ pub record IsReadAgain (m : Module) : Type 0 where
 -- so it is of each module that is formed and printable, and whose ids are those of a module that was read
 abbrev pub TextsAreReadAgain : Type 0
 TextsAreReadAgain = (m : Module) → IsFormed m → IsPrintable m → IsNumbered m → IsCounted m → IsReadAgain m
+
+-- and of each module that is formed and printable, whatever its ids are
+abbrev pub AnyTextsAreReadAgain : Type 0
+AnyTextsAreReadAgain = (m : Module) → IsFormed m → IsPrintable m → IsCounted m → IsReadAgain m

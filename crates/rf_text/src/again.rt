@@ -5,7 +5,8 @@ ghost use Rattle.ir_types.specs.declared.module.Module.{Module};
 ghost use Rattle.ir_types.specs.Formed.{IsFormed};
 ghost use Rattle.ir_types.specs.Renumbered.{renumbered};
 ghost use Rattle.ir_print.specs.Text.{text_of};
-ghost use Rattle.rf_text.specs.Again.{TextsAreReadAgain};
+ghost use Rattle.rf_text.specs.Again.{TextsAreReadAgain, AnyTextsAreReadAgain};
+ghost use Rattle.rf_text.specs.Printable.{IsPrintable};
 
 /// The text of a module that is formed and printable, with the ids of a module that was read, reads as that module with its ids given
 /// anew, and that is formed.
@@ -13,7 +14,13 @@ pub fn texts_are_read_again()
     ensures { TextsAreReadAgain }
 {}
 
-/// With its ids given anew a formed module has the same text.
+/// So it does whatever its ids are.
+pub fn any_texts_are_read_again()
+    ensures { AnyTextsAreReadAgain }
+{}
+
+/// With its ids given anew a formed module has the same text, and can be printed where it could before.
 pub fn renumbered_texts()
-    ensures { (m : Module) → IsFormed m → text_of (renumbered m) ≡ text_of m }
+    ensures text { (m : Module) → IsFormed m → text_of (renumbered m) ≡ text_of m }
+    ensures printable { (m : Module) → IsFormed m → IsPrintable m → IsPrintable (renumbered m) }
 {}

@@ -13,7 +13,7 @@ mod readable;
 mod spelled;
 mod text_lines;
 
-pub use again::{renumbered_texts, texts_are_read_again};
+pub use again::{any_texts_are_read_again, renumbered_texts, texts_are_read_again};
 pub use instructions::{printed_bodies, printed_braces, printed_instructions, printed_labels};
 pub use named_items::printed_items_are_named;
 pub use outside::{

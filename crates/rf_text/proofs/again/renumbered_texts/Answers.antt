@@ -1,5 +1,6 @@
 use Rattle.rf_text.proofs.RenumberedText.{renumbered_text}
+use Rattle.rf_text.proofs.RenumberedForms.{renumbered_printable}
 use Rattle.rf_text.proofs.again.renumbered_texts.Goals as goal
 
 pub returns : goal.returns
-returns c = renumbered_text
+returns c = record { text = renumbered_text; printable = renumbered_printable }
