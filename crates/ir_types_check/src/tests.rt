@@ -22,9 +22,9 @@ fn form_of(alloc: Global, inside: bool, line: &[u8], number: u32) -> Result<Line
     }
     let words = tokens(alloc, line, number)?;
     if inside {
-        Ok(body_line(alloc, line, &words, number)?)
+        Ok(body_line(alloc, line, words.as_slice(), number)?)
     } else {
-        Ok(module_line(alloc, line, &words, number)?)
+        Ok(module_line(alloc, line, words.as_slice(), number)?)
     }
 }
 
