@@ -24,7 +24,7 @@ use Rattle.ir_model.specs.Step.{Went, Lost, Halts, On, Back, Calls, back_with, a
 use Rattle.ir_model.specs.Run.{is_terminator, is_phi}
 use Rattle.ir_model.specs.Shapes.{HasShape, ResultHasShape, CallsKeepShapes}
 use Rattle.ir_model.specs.Causes.{DividesBadly, IsBadAccess, IsCause}
-use Rattle.ir_model.proofs.Rows.{Row_, value_row, ptr_arg, no_arg, Indices, bin_row, cmp_row, cast_row, select_row, extract_row, insert_row, shuffle_row, address_row, inbounds_row, load_row, store_row, alloca_row}
+use Rattle.ir_model.proofs.Rows.{EffectRow, value_row, ptr_arg, no_arg, Indices, bin_row, cmp_row, cast_row, select_row, extract_row, insert_row, shuffle_row, address_row, inbounds_row, load_row, store_row, alloca_row}
 
 -- what an instruction came to
 pub record KeptBack (t : Ty) (objects : ℕ) (b : Back) : Type 0 where
@@ -36,7 +36,7 @@ BackRow C t objects Lost = C
 BackRow C t objects (Halts m) = Unit {0}
 BackRow C t objects (On b) = KeptBack t objects b
 
-back_row : (C : Type 0) (t : Ty) (objects left : ℕ) (e : Option Effect) → Row_ C t objects e → BackRow C t objects (back_with left e)
+back_row : (C : Type 0) (t : Ty) (objects left : ℕ) (e : Option Effect) → EffectRow C t objects e → BackRow C t objects (back_with left e)
 back_row C t objects left None h = h
 back_row C t objects left (Some e) h = record { result = h.result; stay = h.stay }
 

@@ -44,9 +44,9 @@ pub record Kept (t : Ty) (objects : ℕ) (e : Effect) : Type 0 where
   pub result : ResultHasShape (length e.memory) t e.result
   pub stay : objects ≤ length e.memory
 
-abbrev pub Row_ : Type 0 → Ty → ℕ → Option Effect → Type 0
-Row_ C t objects None = C
-Row_ C t objects (Some e) = Kept t objects e
+abbrev pub EffectRow : Type 0 → Ty → ℕ → Option Effect → Type 0
+EffectRow C t objects None = C
+EffectRow C t objects (Some e) = Kept t objects e
 
 -- of a type that is not `void` a result is a value
 result_shape : (objects : ℕ) (t : Ty) (v : Value) → HasShape objects t v → ResultHasShape objects t (Some v)
@@ -55,7 +55,7 @@ result_shape objects (Int w) v h = h
 result_shape objects (Row n w) v h = h
 result_shape objects Ptr v h = h
 
-pub value_row : (C : Type 0) (t : Ty) (m : Memory) (v : Option Value) → Gives C (length m) t v → Row_ C t (length m) (value_effect v m)
+pub value_row : (C : Type 0) (t : Ty) (m : Memory) (v : Option Value) → Gives C (length m) t v → EffectRow C t (length m) (value_effect v m)
 value_row C t m None h = h
 value_row C t m (Some v) h = record { result = result_shape (length m) t v h; stay = omega arith }
 
@@ -463,16 +463,16 @@ length_lanes_from zero k bytes = refl
 length_lanes_from (suc n) k bytes = ap suc (length_lanes_from n k (drop k bytes))
 
 loaded_row : (C : Type 0) (t : Ty) (m : Memory) (size align : ℕ) (p : Pointer) (read : List Lane → Value) → ((bytes : List Lane) → HasShape (length m) t (read bytes)) →
-    (o : Option (List Lane)) → (IsBadAccess size align p m → C) → Loads size align p m o → Row_ C t (length m) (value_effect (option_map read o) m)
+    (o : Option (List Lane)) → (IsBadAccess size align p m → C) → Loads size align p m o → EffectRow C t (length m) (value_effect (option_map read o) m)
 loaded_row C t m size align p read h None f z = f z
 loaded_row C t m size align p read h (Some bytes) f z = record { result = result_shape (length m) t (read bytes) (h bytes); stay = omega arith }
 
-narrow_row : (C : Type 0) (t : Ty) (objects w : ℕ) (e : Option Effect) → is_width w ≡ true → Row_ C t objects e → Row_ C t objects (narrow w e)
-narrow_row C t objects w e h z = subst (λ b. Row_ C t objects (cond b e None)) (sym (wide w h)) z
+narrow_row : (C : Type 0) (t : Ty) (objects w : ℕ) (e : Option Effect) → is_width w ≡ true → EffectRow C t objects e → EffectRow C t objects (narrow w e)
+narrow_row C t objects w e h z = subst (λ b. EffectRow C t objects (cond b e None)) (sym (wide w h)) z
 
-pub load_row : (align : ℕ) (t : Ty) (p : Pointer) (m : Memory) → is_number t ≡ true → PointerFits (length m) p → Row_ (IsBadAccess (size_of t) align p m) t (length m) (typed_load align t p m)
+pub load_row : (align : ℕ) (t : Ty) (p : Pointer) (m : Memory) → is_number t ≡ true → PointerFits (length m) p → EffectRow (IsBadAccess (size_of t) align p m) t (length m) (typed_load align t p m)
 load_row align t p m h f =
-    by_number (λ t. Row_ (IsBadAccess (size_of t) align p m) t (length m) (typed_load align t p m))
+    by_number (λ t. EffectRow (IsBadAccess (size_of t) align p m) t (length m) (typed_load align t p m))
     (λ w wd. narrow_row (IsBadAccess (bytes_in w) align p m) (Int w) (length m) w (load_effect (bytes_in w) align p m) wd
     (loaded_row (IsBadAccess (bytes_in w) align p m) (Int w) m (bytes_in w) align p (λ bytes. LaneValue (lane_from (bytes_in w) bytes)) (λ bytes. tt)
     (loaded (bytes_in w) align p m) (λ b. b) (loads (bytes_in w) align p m f)))
@@ -488,40 +488,40 @@ length_row_bytes k [] = omega arith
 length_row_bytes k (x ∷ xs) = length-append (lane_bytes k x) (row_bytes k xs) ∙ ap (λ n. n + length (row_bytes k xs)) (length-lane_bytes k x) ∙ ap (λ n. k + n) (length_row_bytes k xs) ∙ omega arith
 
 stored_row : (bytes : List Lane) (align : ℕ) (p : Pointer) (m : Memory) → PointerFits (length m) p →
-    Row_ (IsBadAccess (length bytes) align p m) Void (length m) (memory_effect (stored align bytes p m))
+    EffectRow (IsBadAccess (length bytes) align p m) Void (length m) (memory_effect (stored align bytes p m))
 stored_row bytes align None m h = tt
 stored_row bytes align (Some p) m h =
     let f = found m p.0 h.0 in
-    subst (λ o. Row_ (IsBadAccess (length bytes) align (Some p) m) Void (length m) (memory_effect (stored_in m p.0 p.1 align bytes o))) (sym f.1)
+    subst (λ o. EffectRow (IsBadAccess (length bytes) align (Some p) m) Void (length m) (memory_effect (stored_in m p.0 p.1 align bytes o))) (sym f.1)
     (by_place f.0 f.1 (place_of p.1 (length bytes) align (length f.0)) refl)
   where
     by_place : (x : Object) → slice_get m p.0 ≡ Some x → (at : Option ℕ) → place_of p.1 (length bytes) align (length x) ≡ at →
-        Row_ (IsBadAccess (length bytes) align (Some p) m) Void (length m) (memory_effect (option_map (with_bytes m p.0 x bytes) at))
+        EffectRow (IsBadAccess (length bytes) align (Some p) m) Void (length m) (memory_effect (option_map (with_bytes m p.0 x bytes) at))
     by_place x found None e = (x, found, no_place p.1 (length bytes) align (length x) e)
     by_place x found (Some at) e = record { result = tt; stay = let long = length_set m p.0 (put bytes at x) in omega arith }
 
 pub store_row : (align : ℕ) (t : Ty) (v : Value) (p : Pointer) (m : Memory) → is_number t ≡ true → HasShape (length m) t v → PointerFits (length m) p →
-    Row_ (IsBadAccess (size_of t) align p m) Void (length m) (store_effect align (bytes_of t v) p m)
+    EffectRow (IsBadAccess (size_of t) align p m) Void (length m) (store_effect align (bytes_of t v) p m)
 store_row align t v p m h z f =
-    by_number (λ t. (v : Value) → HasShape (length m) t v → Row_ (IsBadAccess (size_of t) align p m) Void (length m) (store_effect align (bytes_of t v) p m))
+    by_number (λ t. (v : Value) → HasShape (length m) t v → EffectRow (IsBadAccess (size_of t) align p m) Void (length m) (store_effect align (bytes_of t v) p m))
     (λ w wd v z. lane_arg (λ us. one (Int w) us) (length m) w [] (v ∷ []) (z, tt)
     (λ a us more. no_arg (λ us. one (Int w) (LaneValue a ∷ us)) (length m) us more
-    (subst (λ n. Row_ (IsBadAccess n align p m) Void (length m) (memory_effect (stored align (lane_bytes (bytes_in w) a) p m))) (length-lane_bytes (bytes_in w) a)
+    (subst (λ n. EffectRow (IsBadAccess n align p m) Void (length m) (memory_effect (stored align (lane_bytes (bytes_in w) a) p m))) (length-lane_bytes (bytes_in w) a)
     (stored_row (lane_bytes (bytes_in w) a) align p m f))))
     (λ n w wd v z. row_arg (λ us. one (Row n w) us) (length m) n w [] (v ∷ []) (z, tt)
     (λ a us long more. no_arg (λ us. one (Row n w) (RowValue a ∷ us)) (length m) us more
-    (subst (λ k. Row_ (IsBadAccess k align p m) Void (length m) (memory_effect (stored align (row_bytes (bytes_in w) a) p m)))
+    (subst (λ k. EffectRow (IsBadAccess k align p m) Void (length m) (memory_effect (stored align (row_bytes (bytes_in w) a) p m)))
     (length_row_bytes (bytes_in w) a ∙ ap (λ k. k * bytes_in w) long)
     (stored_row (row_bytes (bytes_in w) a) align p m f))))
     t h v z
   where
     one : Ty → List Value → Type 0
-    one t (v ∷ us) = Row_ (IsBadAccess (size_of t) align p m) Void (length m) (store_effect align (bytes_of t v) p m)
+    one t (v ∷ us) = EffectRow (IsBadAccess (size_of t) align p m) Void (length m) (store_effect align (bytes_of t v) p m)
     one t [] = Unit {0}
 
 -- ---- allocas
 
-pub alloca_row : (C : Type 0) (elem : Elem) (m : Memory) → Row_ C Ptr (length m) (Some (alloca_effect elem m))
+pub alloca_row : (C : Type 0) (elem : Elem) (m : Memory) → EffectRow C Ptr (length m) (Some (alloca_effect elem m))
 alloca_row C elem m = record {
   result = (let long = length-append m (fresh_object (elem_size elem) ∷ []) in omega arith, sfits_lit tt);
   stay = let long = length-append m (fresh_object (elem_size elem) ∷ []) in omega arith;

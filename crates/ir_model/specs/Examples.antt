@@ -1,5 +1,5 @@
 -- Worked runs: two stores, an undefined run, a run that is cut, and two modules of which one may not stand for the other.
-use Rattle.std.specs.Prelude.{◌≡◌, refl, ℕ, zero, suc, pos, false, Option, None, Some, List, [], ◌∷◌, replicate, codes}
+use Rattle.std.specs.Prelude.{◌≡◌, refl, ℕ, ◌<◌, zero, suc, pos, false, Option, None, Some, List, [], ◌∷◌, replicate, codes}
 use Rattle.std.specs.Int.{int_wrap}
 use Rattle.std.proofs.Common.{subst, inl, inr, lit<}
 use Rattle.std.proofs.Math.Dec.{lit≤}
@@ -26,6 +26,7 @@ use Rattle.ir_model.specs.Memory.{Memory}
 use Rattle.ir_model.specs.Step.{On, Halts, Calls, step}
 use Rattle.ir_model.specs.Run.{run_of}
 use Rattle.ir_model.specs.Fits.{ObjectFits, Fits}
+use Rattle.ir_model.specs.Shapes.{IsShaped}
 use Rattle.ir_model.specs.Causes.{IsUndefinedFor}
 use Rattle.ir_model.specs.Refines.{ModuleRefines}
 
@@ -146,3 +147,13 @@ step_of_cut_call = refl
 -- as long as calls are not read a call is undefined
 run_of_call : run_of (module_b (call_f ∷ [])) 0 (PtrValue None ∷ []) [] 9 ≡ Undefined
 run_of_call = refl
+
+-- ---- shapes
+
+-- `%p` is a pointer: where it has a number, what stands is not of its shape
+no_number_for_p : IsShaped (module_b two_stores) (func_b two_stores) (0 ∷ []) 0 (record { env = λ x. LaneValue (Some 4); memory = eight_bytes }) → ⊥
+no_number_for_p z = z.values (id 0) Ptr refl refl refl
+
+-- before its instruction `%q` may have any value; where it has run, it names an object that is there
+q_names_an_object : IsShaped (module_b two_stores) (func_b two_stores) (0 ∷ []) 1 (record { env = λ x. PtrValue (Some (0, pos 4)); memory = [] }) → 0 < 0
+q_names_an_object z = (z.values (id 1) Ptr refl refl refl).0
