@@ -155,7 +155,11 @@ pub(crate) fn select_value(
             *c, *p, *q,
         )))),
         (Ty::Row { .. }, [Value::Lane(c), Value::Row(left), Value::Row(right)]) => Ok(row(
-            Pairing::Choice(*c).each_pair(alloc, left.as_lanes().as_slice(), right.as_lanes().as_slice())?,
+            Pairing::Choice(*c).each_pair(
+                alloc,
+                left.as_lanes().as_slice(),
+                right.as_lanes().as_slice(),
+            )?,
         )),
         (Ty::Row { .. }, [Value::Row(conditions), Value::Row(left), Value::Row(right)]) => Ok(row(
             chosen_lanes(

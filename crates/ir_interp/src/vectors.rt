@@ -48,7 +48,12 @@ pub(crate) fn insert_value(
     match (ty, values) {
         (Ty::Row { n, .. }, [Value::Row(lanes), Value::Lane(lane), Value::Lane(index)]) => {
             if lanes.len() == usize::from(n) {
-                Ok(Some(Value::Row(with_lane_at(alloc, lanes.as_lanes().as_slice(), *lane, *index)?)))
+                Ok(Some(Value::Row(with_lane_at(
+                    alloc,
+                    lanes.as_lanes().as_slice(),
+                    *lane,
+                    *index,
+                )?)))
             } else {
                 Ok(None)
             }
@@ -112,7 +117,12 @@ pub(crate) fn shuffle_value(
     match (ty, values) {
         (Ty::Row { n, .. }, [Value::Row(left), Value::Row(right)]) => {
             if left.len() == usize::from(n) && right.len() == usize::from(n) {
-                Ok(Some(Value::Row(shuffled(alloc, mask, left.as_lanes().as_slice(), right.as_lanes().as_slice())?)))
+                Ok(Some(Value::Row(shuffled(
+                    alloc,
+                    mask,
+                    left.as_lanes().as_slice(),
+                    right.as_lanes().as_slice(),
+                )?)))
             } else {
                 Ok(None)
             }

@@ -91,6 +91,7 @@ pub put_in_row : (x y : Index) (id other : Id) (i p : ℕ) → slot_of x id ≡ 
 put_in_row x y id other i p at within r f o row = by_slot (slot_of x other) refl where
   stay : slot_of y other ≡ slot_of x other
   stay = slots_stay x y other r f (ap length row ∙ length-set x.row.items i (Some p))
+
   by_slot : (slot : Option ℕ) → slot_of x other ≡ slot → place_in y other ≡ cond (same_id id other) (Some p) (place_in x other)
   by_slot (Some j) e =
       ap (place_by y other) (stay ∙ e) ∙ ap (λ xs. get_or xs j None) row ∙ get_set x.row.items i j (Some p) within
@@ -104,6 +105,7 @@ pub put_aside : (x y : Index) (id other : Id) (p : ℕ) → slot_of x id ≡ Non
 put_aside x y id other p at r f row here = by_slot (slot_of x other) refl where
   stay : slot_of y other ≡ slot_of x other
   stay = slots_stay x y other r f (ap (λ v. length v.items) row)
+
   by_slot : (slot : Option ℕ) → slot_of x other ≡ slot → place_in y other ≡ cond (same_id id other) (Some p) (place_in x other)
   by_slot (Some j) e =
       ap (place_by y other) (stay ∙ e) ∙ ap (λ v. get_or v.items j None) row ∙ sym (ap (place_by x other) e) ∙ ap (λ b. cond b (Some p) (place_in x other)) (sym (apart_too x id other j at e))

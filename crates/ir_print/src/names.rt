@@ -74,12 +74,7 @@ fn counted(n: u64, name: &Option<Bytes>) -> Result<u64, AllocError>
 
 impl<'a> Numbering<'a> {
     /// Adds a value.
-    fn add_value(
-        &mut self,
-        id: Id,
-        ty: Ty,
-        name: &'a Option<Bytes>,
-    ) -> Result<(), AllocError>
+    fn add_value(&mut self, id: Id, ty: Ty, name: &'a Option<Bytes>) -> Result<(), AllocError>
         ensures locals { OnOk result ((rest : List Named) →
             self.new.locals.items ++ names.locals_from self.new.next rest
             ≡ self.old.locals.items ++ names.locals_from self.old.next (names.Named.Value id ty name.now ∷ rest)) }

@@ -72,10 +72,11 @@ fn same_lanes(left: &[Lane], right: &[Lane]) -> bool
 fn same_literal(left: &Literal, right: &Literal) -> bool
     ensures { result ≡ typed.same_literal left.now right.now }
 {
-    same_ty(left.ty, right.ty) && same_lanes(
-        left.lanes.as_lanes().as_slice(),
-        right.lanes.as_lanes().as_slice(),
-    )
+    same_ty(left.ty, right.ty)
+        && same_lanes(
+            left.lanes.as_lanes().as_slice(),
+            right.lanes.as_lanes().as_slice(),
+        )
 }
 
 /// Whether two operands are one.

@@ -109,7 +109,9 @@ fn is_storable(ty: Ty, value: &Opd) -> bool
     match (ty, value) {
         (Ty::Int(w), _) => w == 32 && is_operand(value),
         (Ty::Row { .. }, Opd::Lit(literal)) => {
-            is_pair(ty) && is_pair(literal.ty) && are_two_numbers(literal.lanes.as_lanes().as_slice())
+            is_pair(ty)
+                && is_pair(literal.ty)
+                && are_two_numbers(literal.lanes.as_lanes().as_slice())
         }
         _ => false,
     }
@@ -129,7 +131,8 @@ fn is_literal(w: u8, opd: &Opd) -> bool
     ensures { result ≡ first.is_literal w opd.now }
 {
     match opd {
-        Opd::Lit(literal) => is_int(w, literal.ty) && is_number(literal.lanes.as_lanes().as_slice()),
+        Opd::Lit(literal) => is_int(w, literal.ty)
+            && is_number(literal.lanes.as_lanes().as_slice()),
         _ => false,
     }
 }
