@@ -25,7 +25,7 @@ ROWS = [
     ("the first fault", "A fault with none before it.", "ir_lex/specs/Faults.antt", "FirstFault", None),
     ("the words of a line", "The bytes of its tokens.", "ir_lex/specs/Words.antt", "words", None),
     ("a form of a line in a function", "Its free choices, the line that it is, and its parts in order.", "ir_line/specs/Forms.antt", "Form", "Instruction Reference"),
-    ("what a line in a function spells", "No token, a brace, a form or a call, behind which attachments may stand.", "ir_line/specs/Body.antt", "Spells", "Instruction Reference"),
+    ("what a line in a function spells", "No token, a brace, a form or a call, after which attachments may stand.", "ir_line/specs/Body.antt", "Spells", "Instruction Reference"),
     ("what a line outside functions spells", "Nothing, a line that is kept, or the first line of a function.", "ir_line/specs/Outside.antt", "Spells", "Module Structure"),
     ("a header", "What stands between `define` and the last brace.", "ir_line/specs/Headers.antt", "header", "Functions"),
     ("Drafts", None, None, None, None),
@@ -117,6 +117,16 @@ ROWS = [
     ("what a command makes of a module", "Its text, the text of what `opt` makes of it, or the outcome of a run; or the word that does not fit.", "vec_top/specs/Results.antt", "result_of", None),
     ("what a command promises", "What `print` writes is read again; what `opt` makes refines what was read.", "vec_top/specs/Results.antt", "Promises", None),
     ("the replies", "What stands after each way to the end: each stream, each count, each text.", "vec_top/specs/Replies.antt", "Replies", None),
+    ("Questions and changes", None, None, None, None),
+    ("an answer", "What a scan of the module gives for a question.", "vx_view/specs/Answers.antt", "answer", None),
+    ("reads that agree", "Each recorded question has in the module the recorded answer.", "vx_view/specs/Answers.antt", "Agrees", None),
+    ("the form of an address", "Root, symbol with scale, and constant, back over at most 64 definitions of one block.", "vx_view/specs/Addresses.antt", "form", "getelementptr Instruction"),
+    ("a conflict", "A call with what minds it, or two accesses of which one writes and that are not apart.", "vx_view/specs/Conflicts.antt", "conflict", "Pointer Aliasing Rules"),
+    ("a dependence", "A later instruction uses an earlier one, conflicts with it, or both are allocas.", "vx_view/specs/Conflicts.antt", "depends", None),
+    ("a change made", "Each instruction edited for itself.", "vx_view/specs/Changes.antt", "applied", None),
+    ("a change that fits", "Ids, operands, types and places are such that it may be made.", "vx_view/specs/Changes.antt", "Fits", None),
+    ("the inverse of a change", "What brings back the module in which it was made.", "vx_view/specs/Changes.antt", "inverse", None),
+    ("exact use lists", "For each value the slots that hold it, each once.", "vx_view/specs/Uses.antt", "IsExact", None),
 ]
 
 

@@ -1,0 +1,5 @@
+pub mod Answers
+pub mod Addresses
+pub mod Conflicts
+pub mod Changes
+pub mod Uses

@@ -1,0 +1,18 @@
+//! Questions about a module, their answers, and changes of it: what the vectorizer asks and what it may do.
+//!
+//! These are plain data, which contracts see as records and enums; copying fails for want of memory alone. What a question's
+//! answer is, where addresses lead, which instructions must keep their order, and what a change makes of a module stand as
+//! definitions in `specs/`: `Answers`, `Addresses`, `Conflicts`, `Changes`, `Uses`.
+#![tactic(auto)]
+
+mod answer;
+mod change;
+mod laws;
+mod question;
+mod read;
+
+pub use answer::Answer;
+pub use change::{Change, Changes};
+pub use laws::{changes_are_undone, lifted_lists_are_exact};
+pub use question::Question;
+pub use read::{Read, Reads};
