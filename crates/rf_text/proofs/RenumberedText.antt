@@ -262,8 +262,8 @@ module _ (ids : List Id) where
         ∙ ap (λ t. codes "switch " ++ (typed_at before gs (slice_get os 0) ++ (codes ", " ++ (label_text before other ++ (codes " [\n" ++ (t ++ codes "  ]"))))))
         (ap (λ w. text.cases_text now w cases to) (width_same os h) ∙ cases_same (text.switch_width before (slice_get os 0)) cases to)
     acts_same Unreachable ty os h = refl
-    acts_same (Call tail pre callee attrs post) ty os h =
-        ap (λ t. text.tail_text tail ++ (text.callee_text pre ty callee ++ (t ++ (codes ")" ++ spaced post)))) (arguments os h attrs)
+    acts_same (Call site) ty os h =
+        ap (λ t. text.tail_text site.tail ++ (text.callee_text site.pre ty site.callee ++ (t ++ (codes ")" ++ spaced site.post)))) (arguments os h site.attrs)
 
     results_same : (a b : Bool) (i : Inst) → In ids i.id → text.result_text now a b (new_inst ids i) ≡ text.result_text before a b i
     results_same false false i p = ap (λ t. t ++ codes " = ") (shown_local i.id p)
