@@ -12,9 +12,8 @@ ghost use Rattle.ir_avail.specs.Places.{StandsAt};
 use crate::graph::Graph;
 use crate::miss::{insts_at, same_id};
 use crate::rows::Band;
-use ir_types::{Func, Id};
+use ir_types::{Func, Id, IdTable};
 use std::alloc::{AllocError, Global};
-use std::collections::HashMap;
 
 /// Where a value is defined.
 #[derive(Clone, Copy)]
@@ -28,7 +27,7 @@ enum Home {
 /// Places of values, and the rows of those that instructions define.
 #[derive(Drop)]
 pub(crate) struct Known {
-    homes: HashMap<Id, Home>,
+    homes: IdTable<Home>,
     bands: Vec<Band>,
 }
 
@@ -37,9 +36,9 @@ impl Known {
     pub(crate) fn new(alloc: Global, func: &Func, graph: &Graph) -> Result<Known, AllocError>
         ensures { IfOk result (λ known. AreBands graph.now known.bands.items) }
     {
-        let mut homes = HashMap::new(alloc);
+        let mut homes = IdTable::new(alloc);
         for (number, param) in func.params.as_slice().iter().enumerate() {
-            homes.insert(param.id, Home::Param(number))?;
+            homes.set(param.id, Home::Param(number))?;
         }
         let blocks = inst_homes(alloc, func, &mut homes)?;
         let bands = bands(alloc, graph, &blocks)?;
@@ -51,7 +50,7 @@ impl Known {
         requires { AreBands (graph_of func.now) self.now.bands.items }
         ensures { result ≡ true → IsAvailableAt func.now value before end }
     {
-        match self.homes.get(&value) {
+        match self.homes.get(value) {
             Some(Home::Param(number)) => is_param_at(func, value, *number),
             Some(Home::Inst { column, position }) => self.clears_inst(
                 func, value, before, end, *column, *position,
@@ -147,13 +146,13 @@ fn is_param_at(func: &Func, value: Id, number: usize) -> bool
 fn inst_homes(
     alloc: Global,
     func: &Func,
-    homes: &mut HashMap<Id, Home>,
+    homes: &mut IdTable<Home>,
 ) -> Result<Vec<usize>, AllocError> {
     let mut blocks = Vec::new(alloc);
     for (number, block) in func.blocks.as_slice().iter().enumerate() {
         for (position, inst) in block.insts.as_slice().iter().enumerate() {
             let column = blocks.len();
-            homes.insert(inst.id, Home::Inst { column, position })?;
+            homes.set(inst.id, Home::Inst { column, position })?;
             blocks.push(number)?;
         }
     }

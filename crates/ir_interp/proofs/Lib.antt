@@ -8,3 +8,4 @@ mod Items
 mod Steps
 mod Edges
 mod Alone
+mod Known

@@ -1,7 +1,6 @@
 -- What the code says of an instruction and the memory after it, as the effect that it came to.
 use Rattle.std.specs.Prelude.{Bool, Option, None, Some, if◌then◌else◌}
-use Rattle.std.specs.HashMap.{HashMap}
-use Rattle.ir_types.specs.declared.id.Id.{Id}
+use Rattle.ir_types.specs.declared.id_table.IdTable.{IdTable}
 use Rattle.ir_model.specs.declared.value.Value.{Value}
 use Rattle.ir_model.specs.Memory.{Memory}
 use Rattle.ir_model.specs.Accesses.{Effect}
@@ -25,7 +24,7 @@ effect_in (Result v) m = Some (effect_with v m)
 effect_in Nothing m = Some (record { result = None; memory = m })
 
 -- the state of an environment that slots keep and a memory
-abbrev pub state_in : {S : Type 0} → HashMap Id Value S → Memory → State
+abbrev pub state_in : IdTable Value → Memory → State
 state_in slots m = record { env = env_in slots; memory = m }
 
 -- a state, where it is defined

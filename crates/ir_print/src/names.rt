@@ -190,6 +190,7 @@ impl<'a> Names<'a> {
     }
 
     /// The value of an id.
+    #[inline(always)]
     pub(crate) fn local(&self, id: Id) -> Option<&Local<'a>>
         ensures { option_copied result ≡ names.local_of id self.now.locals }
     {

@@ -9,7 +9,7 @@ use Rattle.atomic_table.proofs.Lists.{at_set}
 use Rattle.atomic_table.specs.Table.{Me, keeps, Allows, Splits, Joins, Final, Seen}
 use Rattle.rg_ticket.specs.declared.hand.Hand.{Hand}
 use Rattle.rg_ticket.specs.Hands.{one_if, times, once_below, IsEachOnce, newcomer, spent, drew, shut, after_draw, after_split, joined}
-use Rattle.rg_ticket.specs.Rule.{total, Each, IsSound, IsKept, Holds, Draws}
+use Rattle.rg_ticket.specs.Rule.{Looks, total, Each, IsSound, IsKept, Holds, Draws}
 use Rattle.rg_ticket.proofs.Totals.{total_set, total_cut, total_join, total_le, total_below, in_one, each_set, each_snoc, times-append, new_number}
 
 -- ---- numbers and tests
@@ -161,6 +161,24 @@ draws limit slots id me told going s holds _ at _ = let found : ℕ = slice_inde
         (λ some_ended. subst (λ n. n ≤ found) (sym told) ((holds.1.sound id me.0 at).none_left some_ended)),
         gives_new found limit me.0 told each,
       ),
+    )
+
+-- ---- a look
+
+set_same : (hands : List Hand) (id : ℕ) (v : Hand) → get_elem? hands id ≡ some v → set hands id v ≡ hands
+set_same [] id v at = absurd (some-ne-none v (sym at))
+set_same (u ∷ us) zero v at = ap (λ h. h ∷ us) (sym (some-injective u v at))
+set_same (u ∷ us) (suc id) v at = ap (λ l. u ∷ l) (set_same us id v at)
+
+pub looks : (limit slots id : ℕ) (me : Me (Unit {0}) Hand) → me.0.limit ≡ limit → Allows (Holds limit) slots id me 0 (λ n. n) (Looks me)
+looks limit slots id me told s holds _ at _ = let found : ℕ = slice_index s.words 0 in
+    let each = has_once limit found id s.views me.0 holds.1 at in
+    let put = first_set s.words found holds.0 in (
+      me.0,
+      keeps,
+      tt,
+      (put.0, subst (λ n. IsKept limit n (set s.views id me.0)) (sym put.1) (subst (λ l. IsKept limit found l) (sym (set_same s.views id me.0 at)) holds.1)),
+      (refl, subst (λ n. IsEachOnce n me.0.numbers) (sym told) each),
     )
 
 -- ---- a split

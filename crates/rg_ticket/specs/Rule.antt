@@ -52,3 +52,7 @@ Holds limit s = (length s.words ≡ 1) × IsKept limit (slice_index s.words 0) s
 abbrev pub Draws : Me (Unit {0}) Hand → ℕ → Me (Unit {0}) Hand → Type 0
 Draws before found after = (after ≡ (after_draw found before.0, before.1)) × IsEachOnce before.0.limit (after_draw found before.0).numbers
     × (0 < before.0.ended_passes → before.0.limit ≤ found) × (found < before.0.limit → times found before.0.numbers ≡ 0)
+
+-- what a look at the word tells its pass: its hand is what it was, and has each number once at most
+abbrev pub Looks : Me (Unit {0}) Hand → ℕ → Me (Unit {0}) Hand → Type 0
+Looks before found after = (after ≡ before) × IsEachOnce before.0.limit before.0.numbers

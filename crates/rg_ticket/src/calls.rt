@@ -9,7 +9,7 @@ ghost use Rattle.rg_ticket.specs.Passes.{view, limit_of, IsPassOf};
 
 use crate::OutOfMemory;
 use crate::pass::Pass;
-use crate::rule::{Cut, Draw, Merge};
+use crate::rule::{Cut, Draw, Look, Merge};
 use crate::tickets::Tickets;
 use atomic_table::Table;
 use std::alloc::Global;
@@ -64,10 +64,13 @@ impl Tickets {
     pub fn join(&self, pass: &mut Pass, other: Pass)
         requires own { IsPassOf self.now pass.old × IsPassOf self.now other }
         requires not_first { (view other).is_first ≡ false }
-        ensures { IsPassOf self.now pass.new × (view pass.new ≡ joined (view pass.old) (view other)) }
+        ensures both { IsPassOf self.now pass.new × (view pass.new ≡ joined (view pass.old) (view other)) }
+        // no number was drawn through both
+        ensures each_once { IsEachOnce (limit_of self.now) (view pass.new).numbers }
     {
         let Pass { seat } = other;
         self.table.shared.join_seat::<Merge>(&mut pass.seat, seat);
+        self.table.shared.load::<Look>(&mut pass.seat, 0);
     }
 
     /// Ends the tickets, with the first pass, into which every other pass was joined. Gives the word's last value, the number

@@ -1,6 +1,6 @@
-//! The rule that the word of the tickets and the hands of all passes keep, and what a draw, a split and a join do to hands.
+//! The rule that the word of the tickets and the hands of all passes keep, and what a draw, a look, a split and a join do to hands.
 //!
-//! `EachOnce` is the rule. The others name the change of the hands at the three kinds of step.
+//! `EachOnce` is the rule. The others name what each kind of step does to the hands.
 use crate::hand::Hand;
 use atomic_table::{Join, Play, Split, TableRule};
 
@@ -23,6 +23,15 @@ impl Play<(), Hand> for Draw {
     ghost use Rattle.rg_ticket.specs.Rule.{Draws};
 
     ghost then = { λ _. Draws };
+}
+
+/// The word is read, and nothing changes.
+pub struct Look;
+
+impl Play<(), Hand> for Look {
+    ghost use Rattle.rg_ticket.specs.Rule.{Looks};
+
+    ghost then = { λ _. Looks };
 }
 
 /// A pass is cut in two.

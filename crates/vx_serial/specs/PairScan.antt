@@ -1,18 +1,18 @@
 -- How the code looks for the pair: in one pass, with the last store that may still pair kept.
 use Rattle.std.specs.Prelude.{ℕ, ◌+◌, ◌-◌, Option, None, Some, List, [], ◌∷◌, ◌++◌, ℤ, cond, take, drop, option_map}
 use Rattle.std.specs.Option.{option_or, option_flatten}
-use Rattle.std.specs.HashMap.{HashMap, get}
 use Rattle.ir_types.specs.declared.id.Id.{Id}
+use Rattle.ir_types.specs.declared.id_table.IdTable.{IdTable}
 use Rattle.ir_types.specs.declared.inst.Inst.{Inst}
-use Rattle.ir_model.specs.Values.{same_id}
+use Rattle.ir_types.specs.IdTable.{found}
 use Rattle.vx_serial.specs.declared.pairing.scan.LedStore.{LedStore}
 use Rattle.vx_serial.specs.declared.pairing.scan.Waiting.{Waiting}
 use Rattle.vx_serial.specs.declared.pairing.scan.Found.{Found}
 use Rattle.vx_serial.specs.Pair.{Leads, leads_after, is_memory, led_store_of, joined_to}
 
 -- the leads that a table keeps; where it has nothing, or knows of none, there is none
-abbrev pub leads_in : {S : Type 0} → HashMap Id (Option (Id × ℤ)) S → Leads
-leads_in table = λ x. option_flatten (get same_id table x)
+abbrev pub leads_in : IdTable (Option (Id × ℤ)) → Leads
+leads_in table = λ x. option_flatten (found table x)
 
 abbrev pub found_pair : ℕ → ℕ → Inst → Found
 found_pair first second both = record { first = first; second = second; both = both }

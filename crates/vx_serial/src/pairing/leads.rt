@@ -7,16 +7,15 @@ ghost use Rattle.std.specs.Prelude.{◌≡◌, IfOk, OnOk};
 ghost use Rattle.vx_serial.specs.Pair.{leads_at_start, set_lead, lead_on, leads_after};
 ghost use Rattle.vx_serial.specs.PairScan.{leads_in};
 
-use ir_types::{Id, Inst, Op, Opd, OutOfMemory, Param};
+use ir_types::{Id, IdTable, Inst, Op, Opd, OutOfMemory, Param};
 use std::alloc::Global;
-use std::collections::HashMap;
 use vx_num::{Lane, advance};
 
 /// What is known of pointers.
 #[derive(Drop)]
 pub(crate) struct Known {
     /// The parameter, and the constant in bytes, modulo 2^64 as signed.
-    table: HashMap<Id, Option<(Id, i64)>>,
+    table: IdTable<Option<(Id, i64)>>,
 }
 
 impl Known {
@@ -25,7 +24,7 @@ impl Known {
         ensures { IfOk result (λ known. leads_in known.table ≡ leads_at_start params.now) }
     {
         let mut known = Known {
-            table: HashMap::new(alloc),
+            table: IdTable::new(alloc),
         };
         for param in params {
             known.set(param.id, Some((param.id, 0)))?;
@@ -37,7 +36,7 @@ impl Known {
     pub(crate) fn lead_of(&self, id: Id) -> Option<(Id, i64)>
         ensures { result ≡ leads_in self.now.table id }
     {
-        match self.table.get(&id) {
+        match self.table.get(id) {
             Some(lead) => *lead,
             None => None,
         }
@@ -47,7 +46,7 @@ impl Known {
     fn set(&mut self, id: Id, lead: Option<(Id, i64)>) -> Result<(), OutOfMemory>
         ensures { OnOk result (leads_in self.new.table ≡ set_lead (leads_in self.old.table) id lead) }
     {
-        self.table.insert(id, lead)?;
+        self.table.set(id, lead)?;
         Ok(())
     }
 
