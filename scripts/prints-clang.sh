@@ -1,6 +1,6 @@
 #!/bin/sh
-# Prints what clang 22 writes for the C files of examples/c: sandvec reads it, LLVM accepts what sandvec prints, and printing that again
-# changes nothing. The same for what `opt` writes.
+# Prints what clang 22 writes for the C files of examples/c, at four levels: sandvec reads it, LLVM accepts what sandvec prints, and
+# printing that again changes nothing. The same for what `opt` writes.
 # Skipped, with status 0, where clang-22, opt-22 or the built program is missing.
 set -u
 top=$(cd "$(dirname "$0")/.." && pwd) || exit 2
@@ -21,18 +21,20 @@ refuse() {
 }
 
 for source in "$top"/examples/c/*.c; do
-    name=$(basename "$source" .c)
-    clang-22 -O1 -fno-vectorize -fno-slp-vectorize -S -emit-llvm -o "$work/$name.ll" "$source" || { refuse "$name: not compiled"; continue; }
-    for word in print opt; do
-        if ! "$program" "$word" <"$work/$name.ll" >"$work/once.ll"; then
-            refuse "$word $name: not read"
-        elif ! opt-22 -passes=verify -disable-output <"$work/once.ll"; then
-            refuse "$word $name: LLVM refuses what is written"
-        elif ! "$program" print <"$work/once.ll" | cmp -s - "$work/once.ll"; then
-            refuse "$word $name: printing again changes the text"
-        else
-            echo "prints-clang: $word $name: accepted, and stays as it is"
-        fi
+    for level in 0 1 2 3; do
+        name="$(basename "$source" .c) at -O$level"
+        clang-22 "-O$level" -S -emit-llvm -o "$work/in.ll" "$source" || { refuse "$name: not compiled"; continue; }
+        for word in print opt; do
+            if ! "$program" "$word" <"$work/in.ll" >"$work/once.ll"; then
+                refuse "$word $name: not read"
+            elif ! opt-22 -passes=verify -disable-output <"$work/once.ll"; then
+                refuse "$word $name: LLVM refuses what is written"
+            elif ! "$program" print <"$work/once.ll" | cmp -s - "$work/once.ll"; then
+                refuse "$word $name: printing again changes the text"
+            else
+                echo "prints-clang: $word $name: accepted, and stays as it is"
+            fi
+        done
     done
 done
 exit "$failed"
