@@ -2,7 +2,8 @@
 --
 -- A way goes from a block along edges to `end`; none of its blocks but the last is barred. With the blocks that define a value
 -- barred, the ways from the entry are the walks on which no earlier block defines it.
-use Rattle.std.specs.Prelude.{◌≡◌, ℕ, ◌+◌, ◌<◌, ◌≤◌, Bool, false, List, [], ◌∷◌, length, slice_index_or}
+use Rattle.std.specs.Prelude.{◌≡◌, refl, ℕ, ◌+◌, ◌<◌, ◌≤◌, ◌==◌, Bool, true, false, List, [], ◌∷◌, length, slice_index_or}
+use Rattle.std.proofs.Common.{lit<}
 use Rattle.std.specs.declared.option.Option.{Option}
 use Rattle.std.specs.declared.option.Option.TheVariants.{None, Some}
 use Rattle.ir_types.specs.Walks.{HasEdge, NotGreater}
@@ -63,3 +64,17 @@ abbrev pub LeadsLeast : List (List ℕ) → List (Option ℕ) → ℕ → List �
 LeadsLeast graph distances len walk =
     (barred : ℕ → Bool) (end : ℕ) → AreDistances graph barred end distances → distance_at distances 0 ≡ Some len
     → (way : List ℕ) × (walk ≡ 0 ∷ way) × IsLeast graph barred end 0 len way
+
+-- ---- a worked example: block 0 leads to 1 and 2, and 1 to 2; with 1 barred, one way to 2 is left
+
+abbrev forked : List (List ℕ)
+forked = (1 ∷ 2 ∷ []) ∷ (2 ∷ []) ∷ [] ∷ []
+
+past_it : Avoids forked (λ v. v == 1) 2 0 (2 ∷ [])
+past_it = (refl, ((1, lit< tt, refl), lit< tt), refl)
+
+through_it : Avoids forked (λ v. v == 1) 2 0 (1 ∷ 2 ∷ []) → ⊥
+through_it way = true_false way.2.0
+  where
+    true_false : true ≡ false → ⊥
+    true_false e = cc

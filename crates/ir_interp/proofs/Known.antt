@@ -25,9 +25,11 @@ add_over before after id item there is none h rest = fun_ext at
     nothing : {A : Type 0} (o : Option (Bor A)) → is_some o ≡ false → option_copied o ≡ None
     nothing None e = refl
     nothing (Some x) e = absurd cc
+
     by_test : (x : Id) (b : Bool) → equal_id x id ≡ b → unwrap_or (cond b (Some item) (found before x)) (rest x) ≡ unwrap_or (found before x) (cond b item (rest x))
     by_test x true e = sym (ap (λ o. unwrap_or o item) (ap (found before) (sym (same_is id x (turned id x ∙ e))) ∙ sym is ∙ nothing there none))
     by_test x false e = refl
+
     at : (x : Id) → over after rest x ≡ over before (with_item rest id item) x
     at x = ap (λ o. unwrap_or o (rest x)) (h x)
         ∙ ap (λ b. unwrap_or (cond b (Some item) (found before x)) (rest x)) (turned id x)
@@ -42,11 +44,13 @@ kept_over before id item there is some rest = fun_ext at
     either : {A : Type 0} (o : Option (Bor A)) → is_some o ≡ true → (t u : A) → unwrap_or (option_copied o) t ≡ unwrap_or (option_copied o) u
     either (Some x) e t u = refl
     either None e t u = absurd cc
+
     by_test : (x : Id) (b : Bool) → equal_id x id ≡ b → unwrap_or (found before x) (rest x) ≡ unwrap_or (found before x) (cond b item (rest x))
     by_test x true e = ap (λ o. unwrap_or o (rest x)) held ∙ either there some (rest x) item ∙ sym (ap (λ o. unwrap_or o item) held)
       where
         held : found before x ≡ option_copied there
         held = ap (found before) (sym (same_is id x (turned id x ∙ e))) ∙ sym is
     by_test x false e = refl
+
     at : (x : Id) → over before rest x ≡ over before (with_item rest id item) x
     at x = by_test x (equal_id x id) refl

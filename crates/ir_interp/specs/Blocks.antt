@@ -1,8 +1,9 @@
 -- What the code says of a block's end, and of the values that phis bring.
-use Rattle.std.specs.Prelude.{◌≡◌, ℕ, ◌≤◌, Bool, false, Option, None, Some, List, [], ◌∷◌, length, drop, nat_eq}
+use Rattle.std.specs.Prelude.{◌≡◌, refl, ℕ, ◌≤◌, Bool, false, Option, None, Some, List, [], ◌∷◌, length, drop, nat_eq}
 use Rattle.ir_types.specs.declared.id.Id.{Id}
 use Rattle.ir_types.specs.declared.ty.Ty.{Ty}
 use Rattle.ir_types.specs.declared.inst.Inst.{Inst}
+use Rattle.ir_model.specs.declared.value.Value.TheVariants.{Lane as LaneValue}
 use Rattle.ir_model.specs.Values.{Lane, Env, with_value}
 use Rattle.ir_model.specs.Step.{State}
 use Rattle.ir_model.specs.Run.{Ended, Stops, Returns, Goes}
@@ -34,3 +35,13 @@ IsEntry from edge insts None = (types : Id → Ty) (s : State) → Stops ≡ ent
 IsEntry from edge insts (Some brought) =
     (length brought ≤ length insts)
     × ((types : Id → Ty) (s : State) → run_insts types (drop (length brought) insts) (record { env = arrived brought s.env; memory = s.memory }) ≡ enter types from edge insts s)
+
+-- what came last to an id is its value
+abbrev phi : ℕ → Lane → Arrival
+phi k lane = record { id = record { region = 0; k = k }; value = LaneValue lane }
+
+last_is_kept : (env : Env) → arrived (phi 1 (Some 7) ∷ phi 2 None ∷ phi 1 (Some 8) ∷ []) env (record { region = 0; k = 1 }) ≡ LaneValue (Some 8)
+last_is_kept env = refl
+
+poison_is_no_case : is_case 0 None ≡ false
+poison_is_no_case = refl

@@ -1,6 +1,13 @@
 -- Lists that are made item by item: what is done, and what is still to come.
-use Rattle.std.specs.Prelude.{◌++◌, Option, List, option_map}
+use Rattle.std.specs.Prelude.{◌≡◌, refl, ℕ, ◌++◌, Option, None, Some, List, [], ◌∷◌, option_map}
 
 -- what is done, before what comes where that is defined
 abbrev pub behind : {A : Type 0} → List A → Option (List A) → Option (List A)
 behind done rest = option_map (λ more. done ++ more) rest
+
+-- two items are done and one comes; where what comes is undefined, so is all
+with_more : behind {A = ℕ} (1 ∷ 2 ∷ []) (Some (3 ∷ [])) ≡ Some (1 ∷ 2 ∷ 3 ∷ [])
+with_more = refl
+
+with_none : behind {A = ℕ} (1 ∷ 2 ∷ []) None ≡ None
+with_none = refl
