@@ -3,3 +3,5 @@ pub mod Addresses
 pub mod Conflicts
 pub mod Changes
 pub mod Uses
+pub mod UsesAfter
+pub mod Views
