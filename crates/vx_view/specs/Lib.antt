@@ -5,3 +5,4 @@ pub mod Changes
 pub mod Uses
 pub mod UsesAfter
 pub mod Views
+pub mod Blocks

@@ -6,7 +6,7 @@ use Rattle.std.specs.Prelude.{◌≡◌, refl, ℕ, suc, cond, Option, None, Som
 use Rattle.ir_types.specs.declared.id.Id.{Id}
 use Rattle.ir_types.specs.declared.id.Use.{Use}
 use Rattle.ir_types.specs.declared.opd.Opd.{Opd}
-use Rattle.ir_types.specs.declared.opd.Opd.TheVariants.{Val, Lit, Sym}
+use Rattle.ir_types.specs.declared.opd.Opd.TheVariants.{Val}
 use Rattle.ir_types.specs.declared.module.Module.{Module}
 use Rattle.ir_types.specs.Available.{same_id}
 use Rattle.vx_view.specs.declared.change.Change.{Change}

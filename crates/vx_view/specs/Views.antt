@@ -3,9 +3,8 @@
 -- A view has its own module. Where notes are open, it keeps the questions that were asked of it with their answers, and then it stands
 -- for every formed module that agrees with these: whatever it answered is true in each. A mark that is open keeps the module and
 -- the use lists at its save, and as long as it is open the view stands for its own module alone.
-use Rattle.std.specs.Prelude.{◌≡◌, refl, ℕ, ◌<◌, Bool, true, false, ◌&&◌, ◌||◌, nat_eq, cond, Option, None, Some, List, [], ◌∷◌, ◌++◌, ⊤}
+use Rattle.std.specs.Prelude.{◌≡◌, refl, ℕ, ◌<◌, Bool, false, ◌&&◌, nat_eq, cond, Option, None, Some, List, [], ◌∷◌, ◌++◌, ⊤}
 use Rattle.std.specs.List.{All, list_any}
-use Rattle.ir_types.specs.declared.id.Id.{Id}
 use Rattle.ir_types.specs.declared.id.Place.{Place}
 use Rattle.ir_types.specs.declared.module.Module.{Module}
 use Rattle.ir_types.specs.Available.{same_id}
@@ -18,7 +17,7 @@ use Rattle.vx_view.specs.declared.read.Read.{Read}
 use Rattle.vx_view.specs.declared.change.Change.{Change}
 use Rattle.vx_view.specs.declared.refusal.ApplyRefusal.{ApplyRefusal}
 use Rattle.vx_view.specs.declared.refusal.ApplyRefusal.TheVariants.{WrongPlace, OutOfMemory}
-use Rattle.vx_view.specs.Answers.{answer, Agrees, value, doubles}
+use Rattle.vx_view.specs.Answers.{Agrees, value}
 use Rattle.vx_view.specs.Changes.{Fits}
 use Rattle.vx_view.specs.UsesAfter.{Contents, changed, cost}
 
@@ -132,6 +131,7 @@ AddsOnly P _ _ = ⊥
 pub record Asks (P : Module → Question → Type 0) (old new : State) : Type 0 where
   pub contents : new.contents ≡ old.contents
   pub saved : new.saved ≡ old.saved
+  pub askable : IsAskable old → IsAskable new
   pub narrows : (m : Module) → StandsFor new m → StandsFor old m
   pub own : StandsFor old old.contents.own → StandsFor new new.contents.own
   pub reads : (m : Module) → StandsFor new m → IsFormed m → AddsOnly (P m) old.notes new.notes

@@ -16,7 +16,7 @@ mod view;
 
 pub use answer::Answer;
 pub use change::{Change, Changes};
-pub use laws::{changes_are_undone, lifted_lists_are_exact};
+pub use laws::{asking_narrows, changes_are_undone, forms_are_of_blocks, lifted_lists_are_exact};
 pub use question::Question;
 pub use read::{Read, Reads};
 pub use refusal::ApplyRefusal;
