@@ -250,3 +250,9 @@ standing_formed m h place x i e = by_func (slice_get (funcs_of m.items) place.fu
             let at = find_at x i b.insts r in
             let formed = func_formed m m.items place.func f (every_of_all (IsFormedItem m) m.items h.items) t in
             record { func = f; number = place.block; position = at.0; formed = (formed.blocks place.block b q).insts at.0 i at.1 }
+
+-- an instruction's id is no parameter's
+pub found_alone : (x : Id) (s : Standing) (m : Module) → IsFormed m → found m x ≡ Some s → param_of x (funcs_of m.items) ≡ None
+found_alone x s m h e =
+    let r = found_block x s m e in
+    (in_items x s.inst 0 s.place.func s.place.block m.items (once_of_pairs (ids_of m) h.once) (ap (find x) r.0 ∙ r.1)).1
