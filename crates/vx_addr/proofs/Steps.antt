@@ -19,7 +19,8 @@ use Rattle.vx_view.specs.Addresses.{Symbol, Offset, Walked, Led, Form, led_op, l
 use Rattle.vx_view.specs.Blocks.{block_at}
 use Rattle.vx_view.proofs.Blocks.{Formedness, standing_formed}
 use Rattle.vx_addr.specs.Parts.{IsStepped, IsPlain}
-use Rattle.vx_addr.specs.Walks.{on_pointers, is_symbol, on_symbols, on_from, on_rest, on_walks, first, end, still, IsStep, Follows, IsSumStep, FollowsSum}
+use Rattle.vx_view.specs.Conflicts.{Access}
+use Rattle.vx_addr.specs.Walks.{on_access, on_pointers, is_symbol, on_symbols, on_from, on_rest, on_walks, first, end, still, IsStep, Follows, IsSumStep, FollowsSum}
 
 pub or_left : (a b : Bool) → a ≡ true → (a || b) ≡ true
 or_left true b h = refl
@@ -233,3 +234,17 @@ module _ (block : List Inst) (p q : Opd) (same : q ≡ p) where
 
   pub form_is : (w : Walked) (f : Form) → w ≡ end block (first q) → f ≡ form_of block w → f ≡ form_in block p
   form_is w f e g = g ∙ ap (form_of block) e ∙ ap (λ r. form_in block r) same
+
+-- ---- the roots of two forms, and the accesses of two instructions
+
+module _ (block : List Inst) (p q : Opd) where
+  pub roots_on : (f g : Form) → f ≡ form_in block p → g ≡ form_in block q → (x : Id) → (is_value x f.root || is_value x g.root) ≡ true → (on_walks block p x || on_walks block q x) ≡ true
+  roots_on f g e h x r = by_first (is_value x f.root) refl r
+    where
+      by_first : (b : Bool) → is_value x f.root ≡ b → (b || is_value x g.root) ≡ true → (on_walks block p x || on_walks block q x) ≡ true
+      by_first true t r = or_left (on_walks block p x) (on_walks block q x) (root_on block p x (ap (λ (k : Form). is_value x k.root) (sym e) ∙ t))
+      by_first false t r = or_right (on_walks block p x) (on_walks block q x) (root_on block q x (ap (λ (k : Form). is_value x k.root) (sym h) ∙ r))
+
+module _ (block : List Inst) (u v : Option Access) (a b : Access) (one : Some a ≡ u) (other : Some b ≡ v) where
+  pub accesses_on : (x : Id) → (on_walks block a.pointer x || on_walks block b.pointer x) ≡ true → (on_access block u x || on_access block v x) ≡ true
+  accesses_on x h = ap (λ w. on_access block w x || on_access block v x) (sym one) ∙ ap (λ w. on_walks block a.pointer x || on_access block w x) (sym other) ∙ h

@@ -55,9 +55,17 @@ as_access a = record { pointer = a.pointer.now; size = a.size; writes = a.writes
 abbrev pub where_of : Standing → Place × Inst
 where_of s = (s.place, s.inst)
 
+abbrev pub only_place : Place × Inst → Place
+only_place w = w.0
+
 abbrev pub where_answered : Answer → Option (Place × Inst)
 where_answered (says.Inst place inst) = Some (place, inst)
 where_answered _ = None
+
+-- two instructions and the place of the first, where both are there
+abbrev pub paired : Option (Place × Inst) → Option (Place × Inst) → Option (Place × Inst × Inst)
+paired (Some first) (Some second) = Some (first.0, first.1, second.1)
+paired _ _ = None
 
 abbrev pub inst_kind : Bool → view_of.Kind
 inst_kind alloca = cond alloca view_of.Allocated view_of.Unknown

@@ -90,6 +90,10 @@ Follows (Some led) old new on = (on ≡ true) × (new.pointer ≡ led.0) × (new
 abbrev pub still : Walked → Form
 still w = record { root = w.pointer; offset = w.offset }
 
+-- the form of a pointer to which nothing is added
+abbrev pub bare : Opd → Form
+bare p = record { root = p; offset = start }
+
 -- the same of the walk of symbols
 abbrev pub IsSumStep : List Inst → Walked → Walked → Bool → Type 0
 IsSumStep block old new true = (form_of block old ≡ form_of block new) × ((x : Id) → on_rest block new x ≡ true → on_rest block old x ≡ true)

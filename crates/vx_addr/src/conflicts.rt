@@ -2,17 +2,18 @@
 //!
 //! Want of memory is the only failure; the view may then have more notes, and is otherwise as before.
 
-ghost use Rattle.std.specs.Prelude.{◌≡◌, ◌||◌, ◌&&◌, ◌-ℤ◌, not, IfOk};
+ghost use Rattle.std.specs.Prelude.{◌≡◌, ◌||◌, ◌&&◌, ◌-ℤ◌, not, IfOk, option_map};
 ghost use Rattle.std.specs.Int.{w64, int_wrap};
 ghost use Rattle.ir_types.specs.declared.module.Module.{Module};
 ghost use Rattle.ir_types.specs.Formed.{IsFormed};
 ghost use Rattle.vx_view.specs.Addresses.{form_in};
-ghost use Rattle.vx_view.specs.Answers.{is_value};
+ghost use Rattle.ir_types.specs.Available.{same_id};
+ghost use Rattle.vx_view.specs.Answers.{is_value, found as view_of_found};
 ghost use Rattle.vx_view.specs.Blocks.{block_at};
 ghost use Rattle.vx_view.specs.Conflicts as view_of;
 ghost use Rattle.vx_view.specs.Conflicts.{conflict, access_of, is_call, minds_calls, is_division, same_root, same_symbol, is_past};
 ghost use Rattle.vx_view.specs.Views.{StandsFor, IsAskable, Asks};
-ghost use Rattle.vx_addr.specs.Parts.{as_form};
+ghost use Rattle.vx_addr.specs.Parts.{as_form, where_of, paired};
 ghost use Rattle.vx_addr.specs.Walks.{Names, on_walks, on_access, conflict_names};
 
 use crate::access::access_of;
@@ -38,16 +39,57 @@ pub fn conflict<V: View>(
     ensures is { IfOk result (λ meets. (m : Module) → StandsFor (V.seen view.new) m → IsFormed m → meets ≡ conflict m i j) }
     ensures asks { Asks (λ m. Names (conflict_names m i j)) (V.seen view.old) (V.seen view.new) }
 {
-    let Some((place, first)) = standing(view, i)? else {
-        return Ok(false);
-    };
-    let Some((_, second)) = standing(view, j)? else {
-        return Ok(false);
-    };
-    if calls_meet(&first, &second) {
+    let found = both(view, i, j)?;
+    match found {
+        Some((place, first, second)) => meets(alloc, view, place, &first, &second),
+        None => Ok(false),
+    }
+}
+
+/// Two instructions and the place of the first, where both are there.
+fn paired(
+    first: Option<(Place, Inst)>,
+    second: Option<(Place, Inst)>,
+) -> Option<(Place, Inst, Inst)>
+    ensures { result ≡ paired first second }
+{
+    match (first, second) {
+        (Some((place, first)), Some((_, second))) => Some((place, first, second)),
+        _ => None,
+    }
+}
+
+/// The instructions of two ids, and the place of the first.
+fn both<V: View>(
+    view: &mut V,
+    i: Id,
+    j: Id,
+) -> Result<Option<(Place, Inst, Inst)>, OutOfMemory>
+    requires { IsAskable (V.seen view.old) }
+    ensures is { IfOk result (λ found. (m : Module) → StandsFor (V.seen view.new) m → IsFormed m → found ≡ paired (option_map where_of (view_of_found m i)) (option_map where_of (view_of_found m j))) }
+    ensures asks { Asks (λ m. Names (λ x. same_id i x || same_id j x)) (V.seen view.old) (V.seen view.new) }
+{
+    let first = standing(view, i)?;
+    let second = standing(view, j)?;
+    Ok(paired(first, second))
+}
+
+/// Whether two instructions of a block conflict.
+fn meets<V: View>(
+    alloc: Global,
+    view: &mut V,
+    place: Place,
+    first: &Inst,
+    second: &Inst,
+) -> Result<bool, OutOfMemory>
+    requires { IsAskable (V.seen view.old) }
+    ensures is { IfOk result (λ meets. (m : Module) → StandsFor (V.seen view.new) m → IsFormed m → meets ≡ view_of.conflict_in m (block_at m place) first.now second.now) }
+    ensures asks { Asks (λ m. Names (λ x. on_access (block_at m place) (access_of first.now) x || on_access (block_at m place) (access_of second.now) x)) (V.seen view.old) (V.seen view.new) }
+{
+    if calls_meet(first, second) {
         return Ok(true);
     }
-    meet(alloc, view, place, &first, &second)
+    meet(alloc, view, place, first, second)
 }
 
 /// Whether a division is one.
@@ -99,12 +141,31 @@ fn meet<V: View>(
 {
     match (access_of(first), access_of(second)) {
         (Some(a), Some(b)) if a.writes || b.writes => {
-            let first = form_at(alloc, view, place, a.pointer)?;
-            let second = form_at(alloc, view, place, b.pointer)?;
-            Ok(!is_apart(view, &first, a.size, &second, b.size)?)
+            let apart = pointers_apart(alloc, view, place, a.pointer, a.size, b.pointer, b.size)?;
+            Ok(!apart)
         }
         _ => Ok(false),
     }
+}
+
+/// Whether accesses of two sizes through two pointers of a block are apart.
+fn pointers_apart<V: View>(
+    alloc: Global,
+    view: &mut V,
+    place: Place,
+    a: &Opd,
+    first: u16,
+    b: &Opd,
+    second: u16,
+) -> Result<bool, OutOfMemory>
+    requires { IsAskable (V.seen view.old) }
+    ensures is { IfOk result (λ apart. (m : Module) → StandsFor (V.seen view.new) m → IsFormed m → apart ≡ view_of.is_apart m (form_in (block_at m place) a.now) first (form_in (block_at m place) b.now) second) }
+    ensures asks { Asks (λ m. Names (λ x. on_walks (block_at m place) a.now x || on_walks (block_at m place) b.now x)) (V.seen view.old) (V.seen view.new) }
+{
+    let one = form_at(alloc, view, place, a)?;
+    let other = form_at(alloc, view, place, b)?;
+    let apart = is_apart(view, &one, first, &other, second)?;
+    Ok(apart)
 }
 
 /// Whether two roots are one value, one global, or poison.
