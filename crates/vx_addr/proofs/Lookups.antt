@@ -1,26 +1,20 @@
 -- What one question tells of an instruction, in each formed module that a view stands for.
-use Rattle.std.proofs.Common.{Result, Ok, Err, IfOk, ◌≡◌, refl, sym, ap, ◌∙◌, subst, ℕ, Bool, true, false, ◌||◌, Option, None, Some, List, [], ◌∷◌, option_map, cond}
+use Rattle.std.proofs.Common.{Result, Ok, Err, IfOk, ◌≡◌, refl, sym, ap, ◌∙◌, subst, Bool, true, Option, None, Some, option_map}
 use Rattle.ir_types.specs.declared.id.Id.{Id}
 use Rattle.ir_types.specs.declared.id.Place.{Place}
 use Rattle.ir_types.specs.declared.func.Param.{Param}
-use Rattle.ir_types.specs.declared.inst.Inst.{Inst}
-use Rattle.ir_types.specs.declared.opd.Opd.{Opd}
-use Rattle.ir_types.specs.declared.opd.Opd.TheVariants.{Val, Lit, Sym}
+use Rattle.ir_types.specs.declared.opd.Opd.TheVariants.{Val}
 use Rattle.ir_types.specs.declared.module.Module.{Module}
-use Rattle.ir_types.specs.Available.{same_id}
-use Rattle.ir_types.specs.Formed.{IsFormed, is_alloca}
-use Rattle.ir_types.proofs.Among.{same_itself}
+use Rattle.ir_types.specs.Formed.{IsFormed}
 use Rattle.vx_view.specs.declared.answer.Answer.{Answer}
-use Rattle.vx_view.specs.declared.answer.Answer.TheVariants as says
 use Rattle.vx_view.specs.declared.question.Question.{Question}
 use Rattle.vx_view.specs.declared.question.Question.TheVariants as ask
-use Rattle.vx_view.specs.Answers.{funcs_of, param_of, find, found, Standing, of_value, answer, is_value}
-use Rattle.vx_view.specs.Blocks.{block_at, in_place, standing_at}
-use Rattle.vx_view.specs.Conflicts as view_of
-use Rattle.vx_view.specs.Conflicts.{param_kind, value_kind, kind_of}
-use Rattle.vx_view.specs.Views.{State, StandsFor, after_asking, Asks}
-use Rattle.vx_view.proofs.Blocks.{standing_is, found_block, found_alone}
-use Rattle.vx_view.proofs.Asking.{asks_none, asks_one, asks_more}
+use Rattle.vx_view.specs.Answers.{funcs_of, param_of, find, found, Standing, of_value, answer}
+use Rattle.vx_view.specs.Blocks.{block_at, in_place}
+use Rattle.vx_view.specs.Conflicts.{value_kind, kind_of}
+use Rattle.vx_view.specs.Views.{State, StandsFor, Asks}
+use Rattle.vx_view.proofs.Blocks.{standing_is, found_alone}
+use Rattle.vx_view.proofs.Asking.{asks_none, asks_more}
 use Rattle.vx_addr.specs.Parts.{where_of, where_answered, kind_answered}
 use Rattle.vx_addr.specs.Walks.{Names}
 

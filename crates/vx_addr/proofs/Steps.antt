@@ -1,6 +1,5 @@
 -- One step of a walk: what it ends at stays, and it comes by no more.
-use Rattle.std.proofs.Common.{◌≡◌, refl, sym, ap, ◌∙◌, subst, ℕ, zero, suc, ℤ, Bool, true, false, ◌&&◌, ◌||◌, Option, None, Some, List, [], ◌∷◌, option_map}
-use Rattle.std.specs.List.{All}
+use Rattle.std.proofs.Common.{◌≡◌, refl, sym, ap, ◌∙◌, subst, ℕ, zero, suc, Bool, true, false, ◌&&◌, ◌||◌, Option, None, Some, List, []}
 use Rattle.ir_types.specs.declared.id.Id.{Id}
 use Rattle.ir_types.specs.declared.id.Place.{Place}
 use Rattle.ir_types.specs.declared.opd.Opd.{Opd}
@@ -12,12 +11,12 @@ use Rattle.ir_types.specs.declared.inst.Inst.{Inst}
 use Rattle.ir_types.specs.declared.module.Module.{Module}
 use Rattle.ir_types.specs.Available.{same_id}
 use Rattle.ir_types.specs.Typed.{IsTyped}
-use Rattle.ir_types.specs.Formed.{IsFormed, IsFormedInst}
+use Rattle.ir_types.specs.Formed.{IsFormed}
 use Rattle.ir_types.proofs.Among.{same_itself}
 use Rattle.vx_view.specs.Answers.{is_value, find}
-use Rattle.vx_view.specs.Addresses.{Symbol, Offset, Walked, Led, Form, led_op, led_by, led_back, sum_back, summed_by, is_wide, is_sum, back_from, symbol_back, or_stay, pointers, symbols, form_of, form_in, start}
+use Rattle.vx_view.specs.Addresses.{Offset, Walked, Led, Form, led_op, led_by, led_back, sum_back, summed_by, is_wide, is_sum, back_from, symbol_back, or_stay, pointers, symbols, form_of, form_in, start}
 use Rattle.vx_view.specs.Blocks.{block_at}
-use Rattle.vx_view.proofs.Blocks.{Formedness, standing_formed}
+use Rattle.vx_view.proofs.Blocks.{standing_formed}
 use Rattle.vx_addr.specs.Parts.{IsStepped, IsPlain}
 use Rattle.vx_view.specs.Conflicts.{Access}
 use Rattle.vx_addr.specs.Walks.{on_access, on_pointers, is_symbol, on_symbols, on_from, on_rest, on_walks, first, end, still, IsStep, Follows, IsSumStep, FollowsSum}
@@ -89,10 +88,10 @@ module _ (block : List Inst) where
   stepped : (old new : Walked) (led : Led) → led_back block old.pointer old.offset ≡ Some led → new.pointer ≡ led.0 → new.offset ≡ led.1 → old.left ≡ suc new.left → IsStep block old new true
   stepped old new led e p o n = (
     ap (λ k. pointers k block old.pointer old.offset) n ∙ on_at new.left old.pointer old.offset led e
-    ∙ ap (λ q. pointers new.left block q led.1) (sym p) ∙ ap (λ q. pointers new.left block new.pointer q) (sym o),
+        ∙ ap (λ q. pointers new.left block q led.1) (sym p) ∙ ap (λ q. pointers new.left block new.pointer q) (sym o),
     λ x h.
-    ap (λ k. on_pointers k block old.pointer old.offset x) n
-    ∙ by_at new.left old.pointer old.offset led e x (ap (λ q. on_pointers new.left block q led.1 x) (sym p) ∙ ap (λ q. on_pointers new.left block new.pointer q x) (sym o) ∙ h),
+        ap (λ k. on_pointers k block old.pointer old.offset x) n
+        ∙ by_at new.left old.pointer old.offset led e x (ap (λ q. on_pointers new.left block q led.1 x) (sym p) ∙ ap (λ q. on_pointers new.left block new.pointer q x) (sym o) ∙ h),
   )
 
   follows : (old new : Walked) (on : Bool) (u : Option Led) → led_back block old.pointer old.offset ≡ u → Follows u old new on → IsStep block old new on
@@ -157,12 +156,12 @@ module _ (block : List Inst) where
   sum_stepped : (old new : Walked) (next : Offset) → symbol_back block old.offset ≡ Some next → new.pointer ≡ old.pointer → new.offset ≡ next → old.left ≡ suc new.left → IsSumStep block old new true
   sum_stepped old new next e p o n = (
     ap (λ q. rooted old.pointer q)
-    (ap (λ k. symbols k block old.offset) n ∙ ap (λ u. or_stay old.offset u (λ q. symbols new.left block q)) e ∙ ap (λ q. symbols new.left block q) (sym o))
-    ∙ ap (λ q. rooted q (symbols new.left block new.offset)) (sym p),
+        (ap (λ k. symbols k block old.offset) n ∙ ap (λ u. or_stay old.offset u (λ q. symbols new.left block q)) e ∙ ap (λ q. symbols new.left block q) (sym o))
+        ∙ ap (λ q. rooted q (symbols new.left block new.offset)) (sym p),
     λ x h.
-    ap (λ k. on_symbols k block old.offset x) n
-    ∙ or_right (is_symbol x old.offset.symbol) (or_stay false (symbol_back block old.offset) (λ q. on_symbols new.left block q x))
-    (ap (λ u. or_stay false u (λ q. on_symbols new.left block q x)) e ∙ ap (λ q. on_symbols new.left block q x) (sym o) ∙ h),
+        ap (λ k. on_symbols k block old.offset x) n
+        ∙ or_right (is_symbol x old.offset.symbol) (or_stay false (symbol_back block old.offset) (λ q. on_symbols new.left block q x))
+        (ap (λ u. or_stay false u (λ q. on_symbols new.left block q x)) e ∙ ap (λ q. on_symbols new.left block q x) (sym o) ∙ h),
   )
     where
       rooted : Opd → Offset → Form

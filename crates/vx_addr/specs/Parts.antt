@@ -1,7 +1,6 @@
 -- What the code keeps of an address, read as the definitions of addresses have it, and what of an instruction lets it be followed.
-use Rattle.std.specs.Prelude.{◌≡◌, refl, ℕ, ℤ, Bool, true, false, not, ◌&&◌, ◌||◌, cond, Option, None, Some, List, [], ◌∷◌, option_map, ⊤}
+use Rattle.std.specs.Prelude.{Bool, cond, Option, None, Some, ⊤}
 use Rattle.std.specs.List.{All}
-use Rattle.ir_types.specs.declared.id.Id.{Id}
 use Rattle.ir_types.specs.declared.id.Place.{Place}
 use Rattle.ir_types.specs.declared.opd.Opd.{Opd}
 use Rattle.ir_types.specs.declared.op.Op.{Op}

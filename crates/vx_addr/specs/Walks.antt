@@ -15,7 +15,7 @@ use Rattle.ir_types.specs.Available.{same_id}
 use Rattle.vx_view.specs.declared.question.Question.{Question}
 use Rattle.vx_view.specs.declared.question.Question.TheVariants as ask
 use Rattle.vx_view.specs.Answers.{is_value, found, Standing}
-use Rattle.vx_view.specs.Addresses.{Symbol, Offset, Walked, Led, Form, led_back, symbol_back, or_stay, pointers, symbols, form_of, start, block_of, value, number, line}
+use Rattle.vx_view.specs.Addresses.{Symbol, Offset, Walked, Led, Form, led_back, symbol_back, or_stay, pointers, form_of, start, block_of, value, number, line}
 use Rattle.vx_view.specs.Conflicts.{Access, access_of}
 
 -- ---- walks

@@ -29,12 +29,7 @@ use vx_view::View;
 
 /// Whether two instructions of one block conflict: a call with what minds calls, or two accesses of which one writes and that are not
 /// apart. It asks for both, and for what the walks from their pointers follow or stop at.
-pub fn conflict<V: View>(
-    alloc: Global,
-    view: &mut V,
-    i: Id,
-    j: Id,
-) -> Result<bool, OutOfMemory>
+pub fn conflict<V: View>(alloc: Global, view: &mut V, i: Id, j: Id) -> Result<bool, OutOfMemory>
     requires { IsAskable (V.seen view.old) }
     ensures is { IfOk result (λ meets. (m : Module) → StandsFor (V.seen view.new) m → IsFormed m → meets ≡ conflict m i j) }
     ensures asks { Asks (λ m. Names (conflict_names m i j)) (V.seen view.old) (V.seen view.new) }
@@ -60,11 +55,7 @@ fn paired(
 }
 
 /// The instructions of two ids, and the place of the first.
-fn both<V: View>(
-    view: &mut V,
-    i: Id,
-    j: Id,
-) -> Result<Option<(Place, Inst, Inst)>, OutOfMemory>
+fn both<V: View>(view: &mut V, i: Id, j: Id) -> Result<Option<(Place, Inst, Inst)>, OutOfMemory>
     requires { IsAskable (V.seen view.old) }
     ensures is { IfOk result (λ found. (m : Module) → StandsFor (V.seen view.new) m → IsFormed m → found ≡ paired (option_map where_of (view_of_found m i)) (option_map where_of (view_of_found m j))) }
     ensures asks { Asks (λ m. Names (λ x. same_id i x || same_id j x)) (V.seen view.old) (V.seen view.new) }

@@ -54,10 +54,7 @@ pub(crate) fn definition<V: View>(
 }
 
 /// The instruction of an id, with its place.
-pub(crate) fn standing<V: View>(
-    view: &mut V,
-    id: Id,
-) -> Result<Option<(Place, Inst)>, OutOfMemory>
+pub(crate) fn standing<V: View>(view: &mut V, id: Id) -> Result<Option<(Place, Inst)>, OutOfMemory>
     requires { IsAskable (V.seen view.old) }
     ensures is { IfOk result (λ there. (m : Module) → StandsFor (V.seen view.new) m → IsFormed m → there ≡ option_map where_of (found m id)) }
     ensures asks { Asks (λ m q. q ≡ ask.Inst id) (V.seen view.old) (V.seen view.new) }

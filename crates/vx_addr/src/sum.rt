@@ -68,9 +68,7 @@ fn is_sum(op: &Op) -> bool
     ensures { result ≡ is_sum op.now }
 {
     match op {
-        Op::Bin {
-            op: BinOp::Add, ..
-        } => true,
+        Op::Bin { op: BinOp::Add, .. } => true,
         Op::Bin {
             op: BinOp::Or,
             flags,

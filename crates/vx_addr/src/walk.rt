@@ -134,11 +134,7 @@ pub(crate) fn pointers<V: View>(
 }
 
 /// As far as sums lead back from there.
-pub(crate) fn sums<V: View>(
-    view: &mut V,
-    place: Place,
-    walk: Walk,
-) -> Result<Walk, OutOfMemory>
+pub(crate) fn sums<V: View>(view: &mut V, place: Place, walk: Walk) -> Result<Walk, OutOfMemory>
     requires { IsAskable (V.seen view.old) }
     ensures is { IfOk result (λ end. (m : Module) → StandsFor (V.seen view.new) m → IsFormed m → still (as_walked end) ≡ form_of (block_at m place) (as_walked walk)) }
     ensures asks { Asks (λ m. Names (on_rest (block_at m place) (as_walked walk))) (V.seen view.old) (V.seen view.new) }

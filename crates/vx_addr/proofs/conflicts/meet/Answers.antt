@@ -1,4 +1,4 @@
-use Rattle.std.proofs.Common.{◌≡◌, ◌∙◌, sym, ap, ◌||◌, Bool, option_map}
+use Rattle.std.proofs.Common.{◌∙◌, sym, ap, ◌||◌, Bool, option_map}
 use Rattle.ir_types.specs.declared.id.Id.{Id}
 use Rattle.ir_types.specs.declared.module.Module.{Module}
 use Rattle.vx_view.specs.Blocks.{block_at}
@@ -18,9 +18,9 @@ returns-in_err-apart-in-Some-Some-clause-asks g c =
     let touched : Module → Id → Bool = λ m x. on_access (block_at m c.args.place) (access_of c.args.first.now) x || on_access (block_at m c.args.place) (access_of c.args.second.now) x in
     asks_more (λ m. Names (walks m)) (λ m. Names (touched m)) (g.V.View.seen c.args.view.now) (g.V.View.seen c.pointers_apart.new.view) c.in_err-apart-in-Some-Some.ensures.asks
     (λ m t f.
-      names_more (walks m) (touched m)
-      (accesses_on (block_at m c.args.place) (access_of c.args.first.now) (access_of c.args.second.now) a b
-      (sym (ap (option_map as_access) c.in-Some-Some.is-0) ∙ c.access_of.ensures) (sym (ap (option_map as_access) c.in-Some-Some.is-1) ∙ c.access_of-2.ensures)))
+    names_more (walks m) (touched m)
+    (accesses_on (block_at m c.args.place) (access_of c.args.first.now) (access_of c.args.second.now) a b
+    (sym (ap (option_map as_access) c.in-Some-Some.is-0) ∙ c.access_of.ensures) (sym (ap (option_map as_access) c.in-Some-Some.is-1) ∙ c.access_of-2.ensures)))
 
 pub returns-in_ok-apart-in-Some-Some-clause-asks : goal.returns-in_ok-apart-in-Some-Some-clause-asks
 returns-in_ok-apart-in-Some-Some-clause-asks g c =
@@ -30,6 +30,6 @@ returns-in_ok-apart-in-Some-Some-clause-asks g c =
     let touched : Module → Id → Bool = λ m x. on_access (block_at m c.args.place) (access_of c.args.first.now) x || on_access (block_at m c.args.place) (access_of c.args.second.now) x in
     asks_more (λ m. Names (walks m)) (λ m. Names (touched m)) (g.V.View.seen c.args.view.now) (g.V.View.seen c.pointers_apart.new.view) c.in_ok-apart-in-Some-Some.ensures.asks
     (λ m t f.
-      names_more (walks m) (touched m)
-      (accesses_on (block_at m c.args.place) (access_of c.args.first.now) (access_of c.args.second.now) a b
-      (sym (ap (option_map as_access) c.in-Some-Some.is-0) ∙ c.access_of.ensures) (sym (ap (option_map as_access) c.in-Some-Some.is-1) ∙ c.access_of-2.ensures)))
+    names_more (walks m) (touched m)
+    (accesses_on (block_at m c.args.place) (access_of c.args.first.now) (access_of c.args.second.now) a b
+    (sym (ap (option_map as_access) c.in-Some-Some.is-0) ∙ c.access_of.ensures) (sym (ap (option_map as_access) c.in-Some-Some.is-1) ∙ c.access_of-2.ensures)))

@@ -1,7 +1,5 @@
 use Rattle.std.proofs.Common.{◌||◌, Bool}
 use Rattle.ir_types.specs.declared.id.Id.{Id}
-use Rattle.ir_types.specs.declared.module.Module.{Module}
-use Rattle.vx_view.specs.declared.question.Question.{Question}
 use Rattle.vx_view.specs.Answers.{is_value}
 use Rattle.vx_view.proofs.Asking.{asks_then, asks_more}
 use Rattle.vx_addr.specs.Walks.{Names}

@@ -1,4 +1,4 @@
-use Rattle.std.proofs.Common.{◌≡◌, ◌∙◌}
+use Rattle.std.proofs.Common.{◌∙◌}
 use Rattle.ir_types.specs.declared.opd.Opd.{Opd}
 use Rattle.ir_types.specs.declared.module.Module.{Module}
 use Rattle.vx_view.specs.declared.question.Question.{Question}
@@ -17,8 +17,8 @@ returns-in_err-walk-clause-asks g c =
     let R : Module → Question → Type 0 = λ m. Names (on_walks (block_at m c.args.place) c.args.pointer.now) in
     asks_more P R (g.V.View.seen c.args.view.now) (g.V.View.seen c.pointers.new.view) c.in_err-walk.ensures.asks
     (λ m t f.
-      names_more (on_from (block_at m c.args.place) (first copy)) (on_walks (block_at m c.args.place) c.args.pointer.now)
-      (pointers_on (block_at m c.args.place) c.args.pointer.now copy c.in_ok-try_clone.ensures))
+    names_more (on_from (block_at m c.args.place) (first copy)) (on_walks (block_at m c.args.place) c.args.pointer.now)
+    (pointers_on (block_at m c.args.place) c.args.pointer.now copy c.in_ok-try_clone.ensures))
 
 pub returns-in_err-walk-2-clause-asks : goal.returns-in_err-walk-2-clause-asks
 returns-in_err-walk-2-clause-asks g c =
@@ -29,11 +29,11 @@ returns-in_err-walk-2-clause-asks g c =
     let more = c.in_err-walk-2.ensures.asks in
     asks_then P Q R (g.V.View.seen c.args.view.now) (g.V.View.seen c.pointers.new.view) (g.V.View.seen c.sums.new.view) c.in_ok-walk.ensures.asks more
     (λ m t f.
-      names_more (on_from (block_at m c.args.place) (first copy)) (on_walks (block_at m c.args.place) c.args.pointer.now)
-      (pointers_on (block_at m c.args.place) c.args.pointer.now copy c.in_ok-try_clone.ensures))
+    names_more (on_from (block_at m c.args.place) (first copy)) (on_walks (block_at m c.args.place) c.args.pointer.now)
+    (pointers_on (block_at m c.args.place) c.args.pointer.now copy c.in_ok-try_clone.ensures))
     (λ m t f.
-      names_more (on_rest (block_at m c.args.place) (as_walked c.in_ok-walk.walk)) (on_walks (block_at m c.args.place) c.args.pointer.now)
-      (sums_on (block_at m c.args.place) c.args.pointer.now copy c.in_ok-try_clone.ensures (as_walked c.in_ok-walk.walk) (c.in_ok-walk.ensures.is m (more.narrows m t) f)))
+    names_more (on_rest (block_at m c.args.place) (as_walked c.in_ok-walk.walk)) (on_walks (block_at m c.args.place) c.args.pointer.now)
+    (sums_on (block_at m c.args.place) c.args.pointer.now copy c.in_ok-try_clone.ensures (as_walked c.in_ok-walk.walk) (c.in_ok-walk.ensures.is m (more.narrows m t) f)))
 
 pub returns-clause-is : goal.returns-clause-is
 returns-clause-is g c m t f =
@@ -49,8 +49,8 @@ returns-clause-asks g c =
     let more = c.in_ok-walk-2.ensures.asks in
     asks_then P Q R (g.V.View.seen c.args.view.now) (g.V.View.seen c.pointers.new.view) (g.V.View.seen c.sums.new.view) c.in_ok-walk.ensures.asks more
     (λ m t f.
-      names_more (on_from (block_at m c.args.place) (first copy)) (on_walks (block_at m c.args.place) c.args.pointer.now)
-      (pointers_on (block_at m c.args.place) c.args.pointer.now copy c.in_ok-try_clone.ensures))
+    names_more (on_from (block_at m c.args.place) (first copy)) (on_walks (block_at m c.args.place) c.args.pointer.now)
+    (pointers_on (block_at m c.args.place) c.args.pointer.now copy c.in_ok-try_clone.ensures))
     (λ m t f.
-      names_more (on_rest (block_at m c.args.place) (as_walked c.in_ok-walk.walk)) (on_walks (block_at m c.args.place) c.args.pointer.now)
-      (sums_on (block_at m c.args.place) c.args.pointer.now copy c.in_ok-try_clone.ensures (as_walked c.in_ok-walk.walk) (c.in_ok-walk.ensures.is m (more.narrows m t) f)))
+    names_more (on_rest (block_at m c.args.place) (as_walked c.in_ok-walk.walk)) (on_walks (block_at m c.args.place) c.args.pointer.now)
+    (sums_on (block_at m c.args.place) c.args.pointer.now copy c.in_ok-try_clone.ensures (as_walked c.in_ok-walk.walk) (c.in_ok-walk.ensures.is m (more.narrows m t) f)))

@@ -1,4 +1,4 @@
-use Rattle.std.proofs.Common.{rules, ℕ, ◌≡◌, ◌≤◌, length, subst, sym, ap, ◌∙◌, get_or, option_map}
+use Rattle.std.proofs.Common.{rules, ◌≡◌, ◌≤◌, length, subst, sym, ap, ◌∙◌, get_or, option_map}
 use Rattle.vx_view.specs.Addresses.{with_index}
 use Rattle.ir_types.specs.Formed.{IsOpd}
 use Rattle.vx_addr.specs.Parts.{as_offset}

@@ -16,8 +16,8 @@ returns-in_err-sum_step-clause-asks g c =
     let step = c.in_err-sum_step.ensures.asks in
     asks_then P Q P (g.V.View.seen c.args.view.now) (g.V.View.seen c.loop-walk.view) (g.V.View.seen c.sum_step.new.view) c.loop-walk.invariant.asks step (λ m t f q n. n)
     (λ m t f.
-      names_more (on_rest (block_at m c.args.place) (as_walked c.loop-walk.walk)) (on_rest (block_at m c.args.place) (as_walked c.args.walk))
-      (c.loop-walk.invariant.leads m (step.narrows m t) f).1)
+    names_more (on_rest (block_at m c.args.place) (as_walked c.loop-walk.walk)) (on_rest (block_at m c.args.place) (as_walked c.args.walk))
+    (c.loop-walk.invariant.leads m (step.narrows m t) f).1)
 
 pub loop-walk-preserved : goal.loop-walk-preserved
 loop-walk-preserved g c =
@@ -28,11 +28,11 @@ loop-walk-preserved g c =
       asks =
           asks_then P Q P (g.V.View.seen c.args.view.now) (g.V.View.seen c.loop-walk.view) (g.V.View.seen c.sum_step.new.view) c.loop-walk.invariant.asks step (λ m t f q n. n)
           (λ m t f.
-            names_more (on_rest (block_at m c.args.place) (as_walked c.loop-walk.walk)) (on_rest (block_at m c.args.place) (as_walked c.args.walk))
-            (c.loop-walk.invariant.leads m (step.narrows m t) f).1);
+          names_more (on_rest (block_at m c.args.place) (as_walked c.loop-walk.walk)) (on_rest (block_at m c.args.place) (as_walked c.args.walk))
+          (c.loop-walk.invariant.leads m (step.narrows m t) f).1);
       leads = λ m t f.
-        sum_leads_on (block_at m c.args.place) (as_walked c.args.walk) (as_walked c.loop-walk.walk) (as_walked c.sum_step.new.self) (c.loop-walk.invariant.leads m (step.narrows m t) f)
-        (subst (λ on. IsSumStep (block_at m c.args.place) (as_walked c.loop-walk.walk) (as_walked c.sum_step.new.self) on) c.if-branch.true (c.in_ok-sum_step.ensures.is m t f));
+          sum_leads_on (block_at m c.args.place) (as_walked c.args.walk) (as_walked c.loop-walk.walk) (as_walked c.sum_step.new.self) (c.loop-walk.invariant.leads m (step.narrows m t) f)
+          (subst (λ on. IsSumStep (block_at m c.args.place) (as_walked c.loop-walk.walk) (as_walked c.sum_step.new.self) on) c.if-branch.true (c.in_ok-sum_step.ensures.is m t f));
     }
 
 pub returns-clause-asks : goal.returns-clause-asks
@@ -42,5 +42,5 @@ returns-clause-asks g c =
     let step = c.in_ok-sum_step.ensures.asks in
     asks_then P Q P (g.V.View.seen c.args.view.now) (g.V.View.seen c.loop-walk.view) (g.V.View.seen c.sum_step.new.view) c.loop-walk.invariant.asks step (λ m t f q n. n)
     (λ m t f.
-      names_more (on_rest (block_at m c.args.place) (as_walked c.loop-walk.walk)) (on_rest (block_at m c.args.place) (as_walked c.args.walk))
-      (c.loop-walk.invariant.leads m (step.narrows m t) f).1)
+    names_more (on_rest (block_at m c.args.place) (as_walked c.loop-walk.walk)) (on_rest (block_at m c.args.place) (as_walked c.args.walk))
+    (c.loop-walk.invariant.leads m (step.narrows m t) f).1)

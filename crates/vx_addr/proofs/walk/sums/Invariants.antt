@@ -1,8 +1,7 @@
-use Rattle.std.proofs.Common.{ℕ}
 use Rattle.ir_types.specs.declared.module.Module.{Module}
 use Rattle.ir_types.specs.Formed.{IsFormed}
 use Rattle.vx_view.specs.Blocks.{block_at}
-use Rattle.vx_view.specs.Views.{StandsFor, IsAskable, Asks}
+use Rattle.vx_view.specs.Views.{StandsFor, Asks}
 use Rattle.vx_addr.specs.Parts.{as_walked}
 use Rattle.vx_addr.specs.Walks.{Names, on_rest}
 use Rattle.vx_addr.proofs.Steps.{SumLeads}

@@ -25,8 +25,8 @@ returns-in-Some-clause-is g c =
     let Q : Bool → Type 0 = λ on. (m : Module) → StandsFor (g.V.View.seen c.definition.new.view) m → IsFormed m → IsStep (block_at m c.args.place) old new on in
     if_ok c.follow.result P Q
     (λ on h m t f.
-      let e : Some inst ≡ find c.in-Val.id (block_at m c.args.place) = sym c.in-Some.is ∙ c.in_ok-inst-in-Val.ensures.is m t f in
-      followed (block_at m c.args.place) c.in-Val.id inst old new on c.in-Val.is e (h (plain_of m f c.args.place c.in-Val.id inst e)))
+    let e : Some inst ≡ find c.in-Val.id (block_at m c.args.place) = sym c.in-Some.is ∙ c.in_ok-inst-in-Val.ensures.is m t f in
+    followed (block_at m c.args.place) c.in-Val.id inst old new on c.in-Val.is e (h (plain_of m f c.args.place c.in-Val.id inst e)))
     c.follow.ensures.is
 
 pub returns-in-Some-clause-asks : goal.returns-in-Some-clause-asks
