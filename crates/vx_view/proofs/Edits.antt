@@ -1,18 +1,16 @@
 -- Edits of each instruction for itself: what one edit does and another takes back, over lists, blocks and modules.
-use Rattle.std.proofs.Common.{◌≡◌, refl, sym, ap, ◌∙◌, subst, ℕ, suc, ◌+◌, Bool, true, false, ◌||◌, Option, None, Some, List, [], ◌∷◌, ◌++◌, map, cond, slice_get, slice_set, append_assoc}
+use Rattle.std.proofs.Common.{◌≡◌, refl, sym, ap, ◌∙◌, subst, ℕ, suc, Bool, true, false, ◌||◌, Option, None, Some, List, [], ◌∷◌, ◌++◌, map, cond, append_assoc}
 use Rattle.ir_types.specs.declared.id.Id.{Id}
-use Rattle.ir_types.specs.declared.opd.Opd.{Opd}
 use Rattle.ir_types.specs.declared.inst.Inst.{Inst}
 use Rattle.ir_types.specs.declared.func.Param.{Param}
 use Rattle.ir_types.specs.declared.func.Block.{Block}
-use Rattle.ir_types.specs.declared.func.Func.{Func}
 use Rattle.ir_types.specs.declared.module.Item.{Item}
 use Rattle.ir_types.specs.declared.module.Item.TheVariants.{Kept, Opaque, Func as FuncItem}
 use Rattle.ir_types.specs.declared.module.Module.{Module}
 use Rattle.ir_types.specs.Available.{same_id}
 use Rattle.ir_types.specs.Formed.{block_ids, item_ids, ids_of_items}
 use Rattle.ir_types.proofs.Formed.{Every}
-use Rattle.ir_types.proofs.Among.{among, among_left, among_right, same_itself, same_is, Once}
+use Rattle.ir_types.proofs.Among.{among, among_left, among_right, same_is, Once}
 use Rattle.vx_view.specs.Answers.{funcs_of, find, Standing, standing, either, standing_in, standing_of}
 use Rattle.vx_view.specs.Changes.{Edit, each, edited_block, edited_item, edited}
 

@@ -1,22 +1,20 @@
 -- The law of changes: in a formed module, a change that fits is undone by its inverse.
-use Rattle.std.proofs.Common.{◌≡◌, refl, sym, ap, ◌∙◌, ℕ, suc, Bool, true, false, not, ◌&&◌, Option, None, Some, List, [], ◌∷◌, map, cond, slice_get}
+use Rattle.std.proofs.Common.{◌≡◌, refl, sym, ap, ◌∙◌, ℕ, suc, Bool, true, false, not, ◌&&◌, Option, None, Some, List, [], ◌∷◌, cond, slice_get}
 use Rattle.ir_types.specs.declared.id.Id.{Id}
-use Rattle.ir_types.specs.declared.opd.Opd.{Opd}
 use Rattle.ir_types.specs.declared.inst.Inst.{Inst}
 use Rattle.ir_types.specs.declared.func.Block.{Block}
-use Rattle.ir_types.specs.declared.func.Func.{Func}
 use Rattle.ir_types.specs.declared.module.Item.{Item}
 use Rattle.ir_types.specs.declared.module.Item.TheVariants.{Kept, Opaque, Func as FuncItem}
 use Rattle.ir_types.specs.declared.module.Module.{Module}
 use Rattle.ir_types.specs.Available.{same_id}
 use Rattle.ir_types.specs.Formed.{is_terminator, ends_from, EndsOnce, IsFormedItem, IsFormed, ids_of}
 use Rattle.ir_types.proofs.Formed.{Every, every_of_all, every_of_each}
-use Rattle.ir_types.proofs.Among.{Once, once_of_pairs}
+use Rattle.ir_types.proofs.Among.{once_of_pairs}
 use Rattle.vx_view.specs.declared.change.Change.{Change}
 use Rattle.vx_view.specs.declared.change.Change.TheVariants.{Insert, Remove, Move, Replace, SetOperand}
 use Rattle.vx_view.specs.Answers.{funcs_of, param_of, find, found, Standing, standing, either, standing_in, standing_of, id_of, after}
 use Rattle.vx_view.specs.Changes.{applied, all_applied, edited, removing, setting, moved, IsNeither, Fits, back_before, back_to, old_operand, inverse}
-use Rattle.vx_view.proofs.Removed.{EveryBlock, EveryBlockIn, some_is, no_none, remove_undone}
+use Rattle.vx_view.proofs.Removed.{EveryBlock, some_is, no_none, remove_undone}
 use Rattle.vx_view.proofs.Undone.{insert_undone, set_undone, put_undone}
 use Rattle.vx_view.proofs.Moved.{move_undone}
 

@@ -5,3 +5,5 @@ pub mod Undone
 pub mod Moved
 pub mod Law
 pub mod Lifted
+pub mod Blocks
+pub mod Asking

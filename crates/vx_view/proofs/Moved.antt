@@ -1,5 +1,5 @@
 -- An instruction that was moved, and is moved back to before what stood after it.
-use Rattle.std.proofs.Common.{◌≡◌, refl, sym, ap, ◌∙◌, subst, ℕ, suc, Bool, true, false, Option, None, Some, List, [], ◌∷◌, ◌++◌, map, cond}
+use Rattle.std.proofs.Common.{◌≡◌, refl, sym, ap, ◌∙◌, ℕ, suc, Bool, true, false, Option, None, Some, List, [], ◌∷◌, ◌++◌, map, cond}
 use Rattle.ir_types.specs.declared.id.Id.{Id}
 use Rattle.ir_types.specs.declared.inst.Inst.{Inst}
 use Rattle.ir_types.specs.declared.func.Block.{Block}
@@ -13,7 +13,7 @@ use Rattle.ir_types.proofs.Among.{same_is, Once}
 use Rattle.vx_view.specs.Answers.{funcs_of, find, found, Standing, standing, either, standing_in, standing_of, after}
 use Rattle.vx_view.specs.Changes.{each, edited_block, edited_item, edited, inserting, removing, moved}
 use Rattle.vx_view.proofs.Edits.{EveryInst, IsOther, find_none, items_none, items_only}
-use Rattle.vx_view.proofs.Removed.{none_inserted, some_is, no_none, remove_undone}
+use Rattle.vx_view.proofs.Removed.{none_inserted, no_none, remove_undone}
 use Rattle.vx_view.proofs.Undone.{insert_undone}
 
 -- ---- what was taken out is not there

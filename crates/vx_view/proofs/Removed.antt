@@ -1,20 +1,19 @@
 -- An instruction that was taken out and is put before what stood after it: the module is as it was.
-use Rattle.std.proofs.Common.{◌≡◌, refl, sym, ap, ◌∙◌, subst, ℕ, zero, suc, Bool, true, false, ◌||◌, Option, None, Some, List, [], ◌∷◌, ◌++◌, map, cond}
+use Rattle.std.proofs.Common.{◌≡◌, refl, sym, ap, ◌∙◌, subst, ℕ, suc, Bool, true, false, ◌||◌, Option, None, Some, List, [], ◌∷◌, ◌++◌, map, cond}
 use Rattle.ir_types.specs.declared.id.Id.{Id}
 use Rattle.ir_types.specs.declared.inst.Inst.{Inst}
 use Rattle.ir_types.specs.declared.func.Param.{Param}
 use Rattle.ir_types.specs.declared.func.Block.{Block}
-use Rattle.ir_types.specs.declared.func.Func.{Func}
 use Rattle.ir_types.specs.declared.module.Item.{Item}
 use Rattle.ir_types.specs.declared.module.Item.TheVariants.{Kept, Opaque, Func as FuncItem}
 use Rattle.ir_types.specs.declared.module.Module.{Module}
 use Rattle.ir_types.specs.Available.{same_id}
 use Rattle.ir_types.specs.Formed.{block_ids, item_ids, ids_of_items, ids_of}
 use Rattle.ir_types.proofs.Formed.{Every}
-use Rattle.ir_types.proofs.Among.{among, among_left, among_right, same_itself, same_is, swapped, Once}
+use Rattle.ir_types.proofs.Among.{among, among_left, among_right, same_itself, same_is, Once}
 use Rattle.vx_view.specs.Answers.{funcs_of, find, found, Standing, standing, either, standing_in, standing_of, id_of, after}
 use Rattle.vx_view.specs.Changes.{Edit, each, edited_block, edited_item, edited, inserting, removing}
-use Rattle.vx_view.proofs.Edits.{IsOther, find_none, blocks_none, lacks_list, lacks_blocks, lacks_items, lacks_left, lacks_right, once_left, once_right, once_apart, inst_ids, items_none}
+use Rattle.vx_view.proofs.Edits.{IsOther, find_none, blocks_none, lacks_list, lacks_blocks, lacks_left, lacks_right, once_left, once_right, once_apart, inst_ids}
 
 -- ---- what holds of each block's instructions
 
@@ -122,7 +121,7 @@ lacks_both x n i l h k = ap (each (inserting n i)) (none_removed x l h) ∙ none
 -- ---- modules
 
 -- what is among the second is not among the first
-once_before : (xs ys : List Id) (x : Id) → Once (xs ++ ys) → among ys x ≡ true → among xs x ≡ false
+pub once_before : (xs ys : List Id) (x : Id) → Once (xs ++ ys) → among ys x ≡ true → among xs x ≡ false
 once_before xs ys x o e = by_test (among xs x) refl where
   by_test : (b : Bool) → among xs x ≡ b → b ≡ false
   by_test true t = absurd (true_false (sym e ∙ once_apart xs ys x o t))

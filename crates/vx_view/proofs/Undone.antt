@@ -1,5 +1,5 @@
 -- Each change is undone by its inverse.
-use Rattle.std.proofs.Common.{◌≡◌, refl, sym, ap, ◌∙◌, subst, ℕ, zero, suc, Bool, true, false, Option, None, Some, List, [], ◌∷◌, ◌++◌, cond, slice_get, slice_set}
+use Rattle.std.proofs.Common.{◌≡◌, refl, sym, ap, ◌∙◌, ℕ, zero, suc, Bool, true, false, None, Some, List, [], ◌∷◌, ◌++◌, cond, slice_get, slice_set}
 use Rattle.ir_types.specs.declared.id.Id.{Id}
 use Rattle.ir_types.specs.declared.opd.Opd.{Opd}
 use Rattle.ir_types.specs.declared.inst.Inst.{Inst}
@@ -9,7 +9,7 @@ use Rattle.ir_types.specs.Formed.{ids_of}
 use Rattle.ir_types.proofs.Among.{same_itself, same_is, swapped, Once}
 use Rattle.vx_view.specs.Answers.{found, Standing}
 use Rattle.vx_view.specs.Changes.{each, edited, inserting, removing, putting, setting, with_operand}
-use Rattle.vx_view.proofs.Edits.{Back, EveryInst, every_inst, module_back, IsOther, IsOnly, items_none, items_only}
+use Rattle.vx_view.proofs.Edits.{Back, every_inst, module_back, IsOther, IsOnly, items_none, items_only}
 
 -- ---- one instruction
 

@@ -4,7 +4,7 @@
 -- constant, one index that is none becomes the symbol. Then a symbol of 64 bits is followed back over sums with a literal. At most 64
 -- definitions are followed in all. Constants are signed numbers of 64 bits that wrap. (Language Reference, "getelementptr Instruction".)
 use Rattle.std.specs.Prelude.{◌≡◌, refl, ℕ, zero, suc, ℤ, pos, negsuc, ◌*◌, ◌/◌, Bool, true, false, ◌&&◌, nat_eq, Option, None, Some, List, [], ◌∷◌, option_map, option_and_then}
-use Rattle.std.specs.Int.{w64, int_wrap}
+use Rattle.std.specs.Int.{int_wrap}
 use Rattle.vx_num.specs.Advance.{advance_of}
 use Rattle.vx_num.specs.declared.operations.BinOp.TheVariants.{Add, Or}
 use Rattle.vx_num.specs.declared.operations.Flags.{Flags}
@@ -13,7 +13,6 @@ use Rattle.ir_types.specs.declared.ty.Ty.{Ty}
 use Rattle.ir_types.specs.declared.ty.Ty.TheVariants.{Int, Ptr}
 use Rattle.ir_types.specs.declared.ty.Elem.{Elem}
 use Rattle.ir_types.specs.declared.ty.Elem.TheVariants.{One, Array}
-use Rattle.ir_types.specs.declared.literal.Literal.{Literal}
 use Rattle.ir_types.specs.declared.opd.Opd.{Opd}
 use Rattle.ir_types.specs.declared.opd.Opd.TheVariants.{Val, Lit, Sym}
 use Rattle.ir_types.specs.declared.op.Op.{Op}

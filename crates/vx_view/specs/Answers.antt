@@ -3,16 +3,15 @@
 -- `answer` has the answer of each question. A question that names an id which is not in the module is answered by nothing; `Next` and
 -- `Prev` of a parameter, of a last and a first instruction, and `First` of a block that is not there name no instruction.
 -- `Agrees` says that recorded answers are those of a module.
-use Rattle.std.specs.Prelude.{◌≡◌, refl, ℕ, zero, suc, ◌+◌, Bool, true, false, not, ◌&&◌, ◌||◌, nat_lt, nat_eq, cond, Option, None, Some, List, [], ◌∷◌, ◌++◌, length, slice_get, codes}
+use Rattle.std.specs.Prelude.{◌≡◌, refl, ℕ, suc, Bool, false, ◌&&◌, ◌||◌, nat_lt, nat_eq, cond, Option, None, Some, List, [], ◌∷◌, ◌++◌, slice_get}
 use Rattle.std.specs.List.{All}
 use Rattle.ir_types.specs.declared.id.Id.{Id}
 use Rattle.ir_types.specs.declared.id.Place.{Place}
 use Rattle.ir_types.specs.declared.id.Use.{Use}
-use Rattle.ir_types.specs.declared.ty.Ty.{Ty}
 use Rattle.ir_types.specs.declared.ty.Ty.TheVariants.{Void, Int}
 use Rattle.ir_types.specs.declared.opd.Opd.{Opd}
 use Rattle.ir_types.specs.declared.opd.Opd.TheVariants.{Val}
-use Rattle.ir_types.specs.declared.op.Op.TheVariants.{Bin, Ret}
+use Rattle.ir_types.specs.declared.op.Op.TheVariants.{Ret}
 use Rattle.ir_types.specs.declared.inst.Inst.{Inst}
 use Rattle.ir_types.specs.declared.func.Param.{Param}
 use Rattle.ir_types.specs.declared.func.Block.{Block}

@@ -3,7 +3,7 @@
 -- A change edits each instruction for itself: the instructions of a block are gone through, and each stays, goes, or gets one beside
 -- or in place of it. Ids stand once in a formed module, so an edit that looks for an id acts at one place. `applied` makes a change,
 -- `all_applied` one after another; `Fits` says where a change may be made, and `AllFit` that each of a list may be made in its turn.
-use Rattle.std.specs.Prelude.{◌≡◌, refl, ℕ, ◌<◌, Bool, true, false, cond, Option, None, Some, List, [], ◌∷◌, ◌++◌, length, map, slice_get, slice_set, ⊤}
+use Rattle.std.specs.Prelude.{◌≡◌, refl, ℕ, ◌<◌, false, cond, Option, None, Some, List, [], ◌∷◌, ◌++◌, length, map, slice_get, slice_set, ⊤}
 use Rattle.std.specs.List.{All}
 use Rattle.std.proofs.lemmas.List.Elements.{All-nil, All-cons}
 use Rattle.ir_types.specs.declared.id.Id.{Id}
@@ -11,7 +11,6 @@ use Rattle.ir_types.specs.declared.ty.Ty.{Ty}
 use Rattle.ir_types.specs.declared.opd.Opd.{Opd}
 use Rattle.ir_types.specs.declared.opd.Opd.TheVariants.{Val, Lit, Sym}
 use Rattle.ir_types.specs.declared.inst.Inst.{Inst}
-use Rattle.ir_types.specs.declared.func.Param.{Param}
 use Rattle.ir_types.specs.declared.func.Block.{Block}
 use Rattle.ir_types.specs.declared.func.Func.{Func}
 use Rattle.ir_types.specs.declared.module.Item.{Item}
@@ -21,7 +20,7 @@ use Rattle.ir_types.specs.Available.{same_id}
 use Rattle.ir_types.specs.Formed.{is_phi, is_alloca, is_terminator, opd_ty}
 use Rattle.vx_view.specs.declared.change.Change.{Change}
 use Rattle.vx_view.specs.declared.change.Change.TheVariants.{Insert, Remove, Move, Replace, SetOperand}
-use Rattle.vx_view.specs.Answers.{funcs_of, param_of, find, found, Standing, uses_of, after, lines, line, value, doubles}
+use Rattle.vx_view.specs.Answers.{funcs_of, param_of, found, Standing, uses_of, after, line, value, doubles}
 
 -- ---- edits
 

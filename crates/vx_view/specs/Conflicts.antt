@@ -15,16 +15,15 @@ use Rattle.ir_types.specs.declared.ty.Elem.TheVariants.{One}
 use Rattle.ir_types.specs.declared.opd.Opd.{Opd}
 use Rattle.ir_types.specs.declared.opd.Opd.TheVariants.{Val, Lit, Sym}
 use Rattle.ir_types.specs.declared.op.Op.{Op}
-use Rattle.ir_types.specs.declared.op.Op.TheVariants.{Bin, Gep, Load, Store, Alloca, Call, Ret}
+use Rattle.ir_types.specs.declared.op.Op.TheVariants.{Bin, Gep, Load, Store, Alloca, Call}
 use Rattle.ir_types.specs.declared.inst.Inst.{Inst}
 use Rattle.ir_types.specs.declared.func.Param.{Param}
-use Rattle.ir_types.specs.declared.func.Func.{Func}
 use Rattle.ir_types.specs.declared.module.Item.TheVariants.{Func as FuncItem}
 use Rattle.ir_types.specs.declared.module.Module.{Module}
 use Rattle.ir_types.specs.Available.{same_id}
 use Rattle.ir_types.specs.Formed.{is_alloca}
 use Rattle.vx_view.specs.Answers.{funcs_of, param_of, found, Standing, is_value}
-use Rattle.vx_view.specs.Addresses.{Symbol, Offset, Form, form_in, value, number, line}
+use Rattle.vx_view.specs.Addresses.{Symbol, Form, form_in, value, number, line}
 
 -- ---- accesses
 

@@ -2,7 +2,7 @@
 --
 -- A list that goes with a module is exact: it has the slots that hold the value, and no others. What is lifted from a module has the uses
 -- in order of the text, each put at the head, so the last use of the text comes first.
-use Rattle.std.specs.Prelude.{◌≡◌, refl, ℕ, ◌≤◌, ◌+◌, Bool, true, false, ◌&&◌, nat_eq, cond, List, [], ◌∷◌, ◌++◌}
+use Rattle.std.specs.Prelude.{◌≡◌, refl, ℕ, ◌≤◌, ◌+◌, Bool, ◌&&◌, nat_eq, cond, List, [], ◌∷◌}
 use Rattle.ir_types.specs.declared.id.Id.{Id}
 use Rattle.ir_types.specs.declared.id.Use.{Use}
 use Rattle.ir_types.specs.declared.module.Module.{Module}

@@ -2,7 +2,8 @@
 //!
 //! These are plain data, which contracts see as records and enums; copying fails for want of memory alone. What a question's
 //! answer is, where addresses lead, which instructions must keep their order, and what a change makes of a module stand as
-//! definitions in `specs/`: `Answers`, `Addresses`, `Conflicts`, `Changes`, `Uses`.
+//! definitions in `specs/`: `Answers`, `Addresses`, `Conflicts`, `Changes`, `Uses`, `UsesAfter`. The traits `View` and `Sand` are
+//! what everything above asks and changes; `Views` has what they hold.
 #![tactic(auto)]
 
 mod answer;
@@ -10,9 +11,13 @@ mod change;
 mod laws;
 mod question;
 mod read;
+mod refusal;
+mod view;
 
 pub use answer::Answer;
 pub use change::{Change, Changes};
-pub use laws::{changes_are_undone, lifted_lists_are_exact};
+pub use laws::{asking_narrows, changes_are_undone, forms_are_of_blocks, lifted_lists_are_exact};
 pub use question::Question;
 pub use read::{Read, Reads};
+pub use refusal::ApplyRefusal;
+pub use view::{Mark, Sand, View};

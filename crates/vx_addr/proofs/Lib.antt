@@ -1,0 +1,4 @@
+pub mod Lookups
+pub mod Steps
+pub mod Behind
+pub mod Pairs
