@@ -1,0 +1,4 @@
+-- Why laws of reordering hold.
+pub mod Lists
+pub mod Effects
+pub mod Swaps

@@ -1,0 +1,4 @@
+-- What laws of reordering speak of.
+pub mod Rows
+pub mod Swaps
+pub mod Steps

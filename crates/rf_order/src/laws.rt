@@ -1,0 +1,17 @@
+//! Laws of instructions in another order.
+//!
+//! Each law is the contract of a function that does nothing and that no program calls; a caller that calls it has the law.
+
+ghost use Rattle.rf_order.specs.Swaps.{EffectsSwap};
+ghost use Rattle.rf_order.specs.Steps.{StepsSwap};
+
+/// Two neighbouring operations whose accesses are apart may be done in the other order.
+pub fn effects_swap()
+    ensures { EffectsSwap }
+{}
+
+/// Two neighbouring instructions that do not share an id may swap: two that are no calls where their effects may, and a call with what
+/// stays what it is whatever the call does.
+pub fn steps_swap()
+    ensures { StepsSwap }
+{}

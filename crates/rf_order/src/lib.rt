@@ -1,0 +1,9 @@
+//! Laws: instructions of a block in another order refine what they were.
+//!
+//! There is no code that runs. Each law is the contract of a public function with an empty body, over the definitions of
+//! `ir_model`, `vx_view` and `vx_serial`; a caller that calls it has the law. Nothing here fails.
+#![tactic(auto)]
+
+mod laws;
+
+pub use laws::{effects_swap, steps_swap};
