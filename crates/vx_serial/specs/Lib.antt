@@ -1,4 +1,5 @@
 -- What the optimizer writes.
+pub mod Window
 pub mod Pair
 pub mod PairScan
 pub mod PairPlaces
