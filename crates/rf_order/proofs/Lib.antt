@@ -2,3 +2,6 @@
 pub mod Lists
 pub mod Effects
 pub mod Swaps
+pub mod Numbers
+pub mod Schedules
+pub mod Windows

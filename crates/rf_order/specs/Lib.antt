@@ -2,3 +2,4 @@
 pub mod Rows
 pub mod Swaps
 pub mod Steps
+pub mod Windows

@@ -4,6 +4,7 @@
 
 ghost use Rattle.rf_order.specs.Swaps.{EffectsSwap};
 ghost use Rattle.rf_order.specs.Steps.{StepsSwap};
+ghost use Rattle.rf_order.specs.Windows.{OrdersReorder};
 
 /// Two neighbouring operations whose accesses are apart may be done in the other order.
 pub fn effects_swap()
@@ -14,4 +15,9 @@ pub fn effects_swap()
 /// stays what it is whatever the call does.
 pub fn steps_swap()
     ensures { StepsSwap }
+{}
+
+/// Where a window has an order, its instructions come in it with each behind all that it depends on.
+pub fn orders_reorder()
+    ensures { OrdersReorder }
 {}
