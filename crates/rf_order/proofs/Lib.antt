@@ -5,3 +5,5 @@ pub mod Swaps
 pub mod Numbers
 pub mod Schedules
 pub mod Windows
+pub mod Orders
+pub mod Shapes

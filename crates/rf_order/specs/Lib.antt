@@ -3,3 +3,4 @@ pub mod Rows
 pub mod Swaps
 pub mod Steps
 pub mod Windows
+pub mod Ready

@@ -3,6 +3,7 @@
 //! Each law is the contract of a function that does nothing and that no program calls; a caller that calls it has the law.
 
 ghost use Rattle.rf_order.specs.Swaps.{EffectsSwap};
+ghost use Rattle.rf_order.specs.Ready.{StepsKeepReady};
 ghost use Rattle.rf_order.specs.Steps.{StepsSwap};
 ghost use Rattle.rf_order.specs.Windows.{OrdersReorder};
 
@@ -20,4 +21,9 @@ pub fn steps_swap()
 /// Where a window has an order, its instructions come in it with each behind all that it depends on.
 pub fn orders_reorder()
     ensures { OrdersReorder }
+{}
+
+/// A step of an instruction that may run keeps a state ready.
+pub fn steps_keep_ready()
+    ensures { StepsKeepReady }
 {}

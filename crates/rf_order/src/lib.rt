@@ -6,4 +6,4 @@
 
 mod laws;
 
-pub use laws::{effects_swap, orders_reorder, steps_swap};
+pub use laws::{effects_swap, orders_reorder, steps_keep_ready, steps_swap};
