@@ -7,3 +7,6 @@ pub mod Schedules
 pub mod Windows
 pub mod Orders
 pub mod Shapes
+pub mod Addresses
+pub mod Sums
+pub mod Apart

@@ -99,7 +99,7 @@ module _ (m : Module) (f : Func) (block : List Inst) (k : Known) (s : State) (re
         shape = (let less : g < length m.globals = grind (arith, nat_tests) in let more = ready.globals in omega arith, sfits_lit tt);
       }
 
-  opds_shape : (os : List Opd) → Every IsOpd os → ((x : Id) → uses x os ≡ true → k.values x ≡ true) → Every IsValued (map (opd_ty m f) os) → OpdsShape m f s os
+  pub opds_shape : (os : List Opd) → Every IsOpd os → ((x : Id) → uses x os ≡ true → k.values x ≡ true) → Every IsValued (map (opd_ty m f) os) → OpdsShape m f s os
   opds_shape [] h there v = record { types = refl; shapes = tt }
   opds_shape (o ∷ os) h there v =
       let first = opd_shape o h.0 (known_first o there) v.0 in
