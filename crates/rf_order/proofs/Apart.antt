@@ -37,6 +37,14 @@ use Rattle.rf_order.proofs.Sums.{on_with, sum_walk}
 true_false : true ≡ false → ⊥
 true_false e = cc
 
+abbrev object_at : Pointer → ℕ
+object_at None = 0
+object_at (Some p) = p.0
+
+abbrev offset_at : Pointer → ℤ
+offset_at None = pos 0
+offset_at (Some p) = p.1
+
 -- ---- distances
 
 -- places that are a distance apart modulo 2^64 are that distance apart
@@ -150,18 +158,10 @@ module _ (m : Module) (f : Func) (formed : IsFormed m) (block : List Inst) (k : 
   led_by (Some p) (Some v) c o z e = record {
     from = p.1;
     value = v;
-    root = ap (λ n. Some (n, p.1)) (sym (ap first e));
+    root = ap (λ n. Some (n, p.1)) (sym (ap object_at e));
     symbol = refl;
-    is = ap second e;
+    is = ap offset_at e;
   }
-    where
-      abbrev first : Pointer → ℕ
-      first None = 0
-      first (Some p) = p.0
-
-      abbrev second : Pointer → ℤ
-      second None = pos 0
-      second (Some p) = p.1
 
   pub forms_apart : (p q : Opd) (n l : ℕ) → Formed p (form_in block p) → Formed q (form_in block q) → is_apart m (form_in block p) n (form_in block q) l ≡ true →
       AreApart (pointer_of (value_of s.env p)) n (pointer_of (value_of s.env q)) l
@@ -191,10 +191,7 @@ module _ (m : Module) (f : Func) (formed : IsFormed m) (block : List Inst) (k : 
         x.is (y.is ∙ ap (λ z. int_wrap w64 (z +ℤ y.value +ℤ r.offset.constant)) (sym from) ∙ ap (λ z. int_wrap w64 (x.from +ℤ z +ℤ r.offset.constant)) (sym value))) past
       where
         offset_same : (p q : ℕ × ℤ) → Some p ≡ Some q → p.1 ≡ q.1
-        offset_same p q e = ap second e where
-          abbrev second : Pointer → ℤ
-          second None = pos 0
-          second (Some p) = p.1
+        offset_same p q e = ap offset_at e
 
         value_same : (v w : ℤ) → Some v ≡ Some w → v ≡ w
         value_same v w e = cc
@@ -233,10 +230,7 @@ module _ (m : Module) (f : Func) (formed : IsFormed m) (block : List Inst) (k : 
   pointer_fits : (objects : ℕ) (v : Value) → HasShape objects Ptr v → (q : ℕ × ℤ) → pointer_of v ≡ Some q → FitsSigned w64 q.1
   pointer_fits objects (PtrValue (Some p)) h q e = subst (FitsSigned w64) (second_same p q e) h.1 where
     second_same : (p q : ℕ × ℤ) → Some p ≡ Some q → p.1 ≡ q.1
-    second_same p q e = ap second e where
-      abbrev second : Pointer → ℤ
-      second None = pos 0
-      second (Some p) = p.1
+    second_same p q e = ap offset_at e
   pointer_fits objects (PtrValue None) h q e = absurd cc
   pointer_fits objects (LaneValue a) h q e = elim h [ ]
   pointer_fits objects (RowValue a) h q e = elim h [ ]
