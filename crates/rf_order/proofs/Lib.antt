@@ -10,3 +10,4 @@ pub mod Shapes
 pub mod Addresses
 pub mod Sums
 pub mod Apart
+pub mod Refined

@@ -3,7 +3,7 @@
 -- Known are ids whose values are there, and the instructions of the block that have run on this way to the place. A state is ready where
 -- each known value has its type's shape, each address and sum that has run is what its operands make it, and roots of kinds that never
 -- meet name different objects. A step of an instruction that may run keeps this.
-use Rattle.std.specs.Prelude.{◌≡◌, refl, ℕ, ℤ, ◌<◌, ◌≤◌, ◌⊎◌, Bool, true, false, ◌||◌, cond, Option, None, Some, List, [], ◌∷◌, length, map, ⊤}
+use Rattle.std.specs.Prelude.{◌≡◌, refl, ℕ, ℤ, ◌<◌, ◌≤◌, ◌⊎◌, Bool, true, false, ◌||◌, cond, Option, None, Some, List, [], ◌∷◌, ◌++◌, length, map, ⊤}
 use Rattle.std.specs.List.{All, Contains}
 use Rattle.ir_types.specs.declared.id.Id.{Id}
 use Rattle.ir_types.specs.declared.ty.Ty.{Ty}
@@ -22,15 +22,15 @@ use Rattle.ir_model.specs.Values.{Pointer, Env, pointer_of, value_of, type_of, s
 use Rattle.ir_model.specs.Operations.{bin_value}
 use Rattle.ir_model.specs.Addresses.{address_value}
 use Rattle.ir_model.specs.Step.{State, Reached, Calls, On, step}
-use Rattle.ir_model.specs.Run.{is_terminator, is_phi, types_of}
+use Rattle.ir_model.specs.Run.{is_terminator, is_phi, run_insts, types_of}
 use Rattle.ir_model.specs.Shapes.{HasShape, CallsKeepShapes}
 use Rattle.vx_view.specs.Answers.{find}
-use Rattle.vx_view.specs.Conflicts.{depends, Kind, Allocated, Unknown, kind_of, never_meet, same_root}
+use Rattle.vx_view.specs.Conflicts.{depends, Kind, Allocated, Unknown, kind_of, never_meet, same_root, access_of, meet}
 use Rattle.vx_serial.specs.Window.{order_in, joined}
-use Rattle.rf_order.specs.Rows.{steps, Instead}
-use Rattle.rf_order.specs.Swaps.{CallsKeepObjects}
+use Rattle.rf_order.specs.Rows.{steps, Instead, Reordered}
+use Rattle.rf_order.specs.Swaps.{CallsKeepObjects, touch_of, KeepApart}
 use Rattle.rf_order.specs.Steps.{uses}
-use Rattle.rf_order.specs.Windows.{AreOnce, ids_of, AreBundles}
+use Rattle.rf_order.specs.Windows.{AreBundles}
 
 pub record Known : Type 0 where
   pub values : Id → Bool
@@ -128,3 +128,29 @@ abbrev pub StepsKeepReady : Type 0
 StepsKeepReady =
     (m : Module) (f : Func) → IsFormed m → (block : List Inst) (calls : Calls) → CallsKeepShapes m calls → (k : Known) (i : Inst) (r q : Reached) →
     MayRun m f block k i → IsReady m f block k r.state → step (types_of f) calls i r ≡ On q → IsReady m f block (next k i) q.state
+
+-- accesses of two instructions that may run and do not meet by their forms are apart: both only read, or no byte is touched by both
+abbrev pub AccessesKeepApart : Type 0
+AccessesKeepApart =
+    (m : Module) (f : Func) → IsFormed m → (block : List Inst) (k : Known) (s : State) → IsReady m f block k s → (x y : Inst) → MayRun m f block k x → MayRun m f block k y →
+    meet m block (access_of x) (access_of y) ≡ false → KeepApart (touch_of x.op x.ty (map (value_of s.env) x.opds)) (touch_of y.op y.ty (map (value_of s.env) y.opds))
+
+-- two neighbours of which the second does not depend on the first, over all calls that keep shapes and leave objects as long as they are
+abbrev pub NeighboursSwap : Type 0
+NeighboursSwap =
+    (m : Module) (f : Func) → IsFormed m → (block : List Inst) (calls : Calls) → CallsKeepShapes m calls → CallsKeepObjects calls → (k : Known) (x y : Inst) (r : Reached) →
+    MayRun m f block k x → MayRun m f block (next k x) y → depends m block y x ≡ false → IsReady m f block k r.state →
+    Instead (steps (types_of f) calls (y ∷ x ∷ []) r) (steps (types_of f) calls (x ∷ y ∷ []) r)
+
+-- a row in another order, in which each stands behind all that it depends on
+abbrev pub RowsRefine : Type 0
+RowsRefine =
+    (m : Module) (f : Func) → IsFormed m → (block : List Inst) (calls : Calls) → CallsKeepShapes m calls → CallsKeepObjects calls → (k : Known) (old new : List Inst) (r : Reached) →
+    Reordered (depends m block) old new → MayRunAll m f block k old → IsReady m f block k r.state → Instead (steps (types_of f) calls new r) (steps (types_of f) calls old r)
+
+-- the window of bundles in its order, and what stands behind it
+abbrev pub WindowsRefine : Type 0
+WindowsRefine =
+    (m : Module) (f : Func) → IsFormed m → (block : List Inst) (calls : Calls) → CallsKeepShapes m calls → CallsKeepObjects calls → (k : Known) (insts rest : List Inst) (bundles : List (List Id)) →
+    AreBundles insts bundles → (groups : List (List Inst)) → order_in m block insts bundles ≡ Some groups → MayRunAll m f block k insts → (r : Reached) → IsReady m f block k r.state →
+    Instead (run_insts (types_of f) calls (joined groups ++ rest) r) (run_insts (types_of f) calls (insts ++ rest) r)

@@ -3,7 +3,7 @@
 //! Each law is the contract of a function that does nothing and that no program calls; a caller that calls it has the law.
 
 ghost use Rattle.rf_order.specs.Swaps.{EffectsSwap};
-ghost use Rattle.rf_order.specs.Ready.{StepsKeepReady};
+ghost use Rattle.rf_order.specs.Ready.{AccessesKeepApart, NeighboursSwap, RowsRefine, StepsKeepReady, WindowsRefine};
 ghost use Rattle.rf_order.specs.Steps.{StepsSwap};
 ghost use Rattle.rf_order.specs.Windows.{OrdersReorder};
 
@@ -26,4 +26,25 @@ pub fn orders_reorder()
 /// A step of an instruction that may run keeps a state ready.
 pub fn steps_keep_ready()
     ensures { StepsKeepReady }
+{}
+
+/// Accesses of instructions that may run in a ready state are apart where their forms show it.
+pub fn accesses_keep_apart()
+    ensures { AccessesKeepApart }
+{}
+
+/// Neighbours of which the second does not depend on the first may swap, in a ready state, over all calls that keep shapes and objects:
+/// where the old order is defined, the new one comes to the same.
+pub fn neighbours_swap()
+    ensures { NeighboursSwap }
+{}
+
+/// A row of instructions in another order, each behind all that it depends on, comes to the same, where the old row is defined.
+pub fn rows_refine()
+    ensures { RowsRefine }
+{}
+
+/// A block's window in its order, with what stands behind it, comes to the same, where it was defined.
+pub fn windows_refine()
+    ensures { WindowsRefine }
 {}

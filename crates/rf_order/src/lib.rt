@@ -6,4 +6,7 @@
 
 mod laws;
 
-pub use laws::{effects_swap, orders_reorder, steps_keep_ready, steps_swap};
+pub use laws::{
+    accesses_keep_apart, effects_swap, neighbours_swap, orders_reorder, rows_refine,
+    steps_keep_ready, steps_swap, windows_refine,
+};
