@@ -11,3 +11,4 @@ pub mod Addresses
 pub mod Sums
 pub mod Apart
 pub mod Refined
+pub mod Blocks

@@ -4,3 +4,4 @@ pub mod Swaps
 pub mod Steps
 pub mod Windows
 pub mod Ready
+pub mod Blocks

@@ -1,0 +1,58 @@
+-- A block that is entered: its phis have run, what stands has its type's shape, and roots of kinds that never meet name different objects.
+use Rattle.std.specs.Prelude.{◌≡◌, refl, ℕ, ◌<◌, true, false, Option, Some, List, [], ◌∷◌, ◌++◌, length, slice_get, ⊤}
+use Rattle.std.specs.List.{Contains}
+use Rattle.ir_types.specs.declared.id.Id.{Id}
+use Rattle.ir_types.specs.declared.opd.Opd.{Opd}
+use Rattle.ir_types.specs.declared.inst.Inst.{Inst}
+use Rattle.ir_types.specs.declared.func.Block.{Block}
+use Rattle.ir_types.specs.declared.func.Func.{Func}
+use Rattle.ir_types.specs.declared.module.Item.TheVariants.{Func as FuncItem}
+use Rattle.ir_types.specs.declared.module.Module.{Module}
+use Rattle.ir_types.specs.Walks.{IsWalk, EndsAt}
+use Rattle.ir_types.specs.Available.{graph_of, stands_on}
+use Rattle.ir_types.specs.Formed.{IsFormed}
+use Rattle.ir_model.specs.Values.{pointer_of, value_of}
+use Rattle.ir_model.specs.Step.{State, Reached, Calls}
+use Rattle.ir_model.specs.Run.{is_phi, run_insts, types_of}
+use Rattle.ir_model.specs.Shapes.{IsShaped, CallsKeepShapes}
+use Rattle.vx_view.specs.Conflicts.{kind_of}
+use Rattle.vx_serial.specs.Window.{order_in, joined}
+use Rattle.rf_order.specs.Rows.{Instead}
+use Rattle.rf_order.specs.Swaps.{CallsKeepObjects}
+use Rattle.rf_order.specs.Windows.{AreBundles}
+use Rattle.rf_order.specs.Ready.{has_kind, NamesOne, is_known, RootsApart}
+
+-- phis alone, or none
+abbrev pub ArePhis : List Inst → Type 0
+ArePhis [] = ⊤
+ArePhis (i ∷ is) = (is_phi i.op ≡ true) × ArePhis is
+
+abbrev pub NoPhis : List Inst → Type 0
+NoPhis [] = ⊤
+NoPhis (i ∷ is) = (is_phi i.op ≡ false) × NoPhis is
+
+-- on a walk of whose last block so many instructions have run
+pub record IsEntered (m : Module) (f : Func) (walk : List ℕ) (before : ℕ) (s : State) : Type 0 where
+  pub shaped : IsShaped m f walk before s
+  pub within : (a : Opd) → is_known (λ x. stands_on f x before walk) a ≡ true → has_kind (kind_of m a) ≡ true → NamesOne (length s.memory) (pointer_of (value_of s.env a))
+  pub roots : RootsApart m (λ x. stands_on f x before walk) s.env
+
+-- a block of a formed module that a walk comes to: its phis, then the instructions before the window, the window, and what is behind it
+pub record IsCut (m : Module) (f : Func) (walk : List ℕ) (at : ℕ) (b : Block) (phis before insts : List Inst) (last : Inst) (after : List Inst) : Type 0 where
+  pub formed : IsFormed m
+  pub func : Contains m.items (FuncItem f)
+  pub walks : IsWalk (graph_of f) walk
+  pub ends : EndsAt walk at
+  pub there : slice_get f.blocks at ≡ Some b
+  pub parts : b.insts ≡ phis ++ (before ++ insts) ++ last ∷ after
+  pub phis_first : ArePhis phis
+  pub no_phis : NoPhis (before ++ insts)
+
+-- over all calls that keep shapes and leave objects as long as they are, and for all bundles whose window has an order: the block with
+-- its window in that order, the groups with their members in theirs, comes to the same, where the block was defined
+abbrev pub BlocksRefine : Type 0
+BlocksRefine =
+    (m : Module) (f : Func) (walk : List ℕ) (at : ℕ) (b : Block) (phis before insts : List Inst) (last : Inst) (after : List Inst) → IsCut m f walk at b phis before insts last after →
+    (bundles : List (List Id)) → AreBundles insts bundles → (groups : List (List Inst)) → order_in m b.insts insts bundles ≡ Some groups →
+    (calls : Calls) → CallsKeepShapes m calls → CallsKeepObjects calls → (r : Reached) → IsEntered m f walk (length phis) r.state →
+    Instead (run_insts (types_of f) calls (before ++ joined groups ++ last ∷ after) r) (run_insts (types_of f) calls (before ++ insts ++ last ∷ after) r)
