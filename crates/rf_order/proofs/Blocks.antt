@@ -359,3 +359,232 @@ module _ (m : Module) (f : Func) (walk : List ℕ) (at : ℕ) (b : Block) (phis 
   -- what is known when the block's phis have run
   abbrev pub entry : Known
   entry = record { values = λ x. not (defines x ((before ++ insts) ++ last ∷ after)) && stands_on f x (length phis) walk; done = [] }
+
+-- ---- places of a list
+
+get_behind : (xs ys : List Inst) (n : ℕ) (i : Inst) → slice_get ys n ≡ Some i → slice_get (xs ++ ys) (length xs + n) ≡ Some i
+get_behind [] ys n i e = ap (slice_get ys) (plain n) ∙ e where
+  plain : (n : ℕ) → 0 + n ≡ n
+  plain n = omega arith
+get_behind (x ∷ xs) ys n i e = ap (slice_get (x ∷ xs ++ ys)) (more (length xs) n) ∙ get_behind xs ys n i e where
+  more : (a n : ℕ) → suc a + n ≡ suc (a + n)
+  more a n = omega arith
+
+get_defines : (ys : List Inst) (q : ℕ) (y : Inst) (z : Id) → slice_get ys q ≡ Some y → same_id y.id z ≡ true → defines z ys ≡ true
+get_defines [] q y z e h = absurd cc
+get_defines (j ∷ ys) zero y z e h = let same : j ≡ y = cc in or_first (same_id j.id z) (defines z ys) (ap (λ (j : Inst). same_id j.id z) same ∙ h)
+get_defines (j ∷ ys) (suc q) y z e h = or_second (same_id j.id z) (defines z ys) (get_defines ys q y z e h)
+
+behind_defines : (xs ys : List Inst) (q : ℕ) (y : Inst) (z : Id) → slice_get (xs ++ ys) q ≡ Some y → length xs ≤ q → same_id y.id z ≡ true → defines z ys ≡ true
+behind_defines [] ys q y z e less h = get_defines ys q y z e h
+behind_defines (x ∷ xs) ys zero y z e less h = absurd (omega arith)
+behind_defines (x ∷ xs) ys (suc q) y z e less h = behind_defines xs ys q y z e (omega arith) h
+
+-- where an id is defined
+record Defined (is : List Inst) (z : Id) : Type 0 where
+  place : ℕ
+  inst : Inst
+  here : slice_get is place ≡ Some inst
+  is_it : same_id inst.id z ≡ true
+
+defined : (is : List Inst) (z : Id) → defines z is ≡ true → Defined is z
+defined [] z h = absurd cc
+defined (i ∷ is) z h = by_first (or_case (same_id i.id z) (defines z is) h) (λ k. defined is z k) where
+  by_first : (same_id i.id z ≡ true) ⊎ (defines z is ≡ true) → (defines z is ≡ true → Defined is z) → Defined (i ∷ is) z
+  by_first (inl e) more = record { place = 0; inst = i; here = refl; is_it = e }
+  by_first (inr k) more = let r = more k in record { place = suc r.place; inst = r.inst; here = r.here; is_it = r.is_it }
+
+get_less : (xs : List Inst) (k : ℕ) (x : Inst) → slice_get xs k ≡ Some x → k < length xs
+get_less [] k x e = absurd cc
+get_less (z ∷ xs) zero x e = omega arith
+get_less (z ∷ xs) (suc k) x e = let r = get_less xs k x e in omega arith
+
+get_front : (xs ys : List Inst) (k : ℕ) → k < length xs → slice_get (xs ++ ys) k ≡ slice_get xs k
+get_front [] ys k h = absurd (omega arith)
+get_front (x ∷ xs) ys zero h = refl
+get_front (x ∷ xs) ys (suc k) h = get_front xs ys k (omega arith)
+
+and_right : (a b : Bool) → a && b ≡ true → b ≡ true
+and_right true b h = h
+and_right false b h = absurd cc
+
+and_left : (a b : Bool) → a && b ≡ true → a ≡ true
+and_left true b h = refl
+and_left false b h = absurd cc
+
+not_false : (b : Bool) → not b ≡ true → b ≡ false
+not_false false h = refl
+not_false true h = absurd cc
+
+-- what is found and not behind the phis is a phi
+found_phi : (phis body : List Inst) (x : Id) (i : Inst) → ArePhis phis → defines x body ≡ false → find x (phis ++ body) ≡ Some i → is_phi i.op ≡ true
+found_phi [] body x i are none e = absurd (let no = sym (find_none body x (sym (defines_among x body) ∙ none)) ∙ e in cc)
+found_phi (j ∷ phis) body x i are none e = by_test (same_id j.id x) e (λ d. found_phi phis body x i are.1 none d) where
+  by_test : (t : Bool) → cond t (Some j) (find x (phis ++ body)) ≡ Some i → (find x (phis ++ body) ≡ Some i → is_phi i.op ≡ true) → is_phi i.op ≡ true
+  by_test true e more = let same : j ≡ i = cc in ap (λ (j : Inst). is_phi j.op) (sym same) ∙ are.0
+  by_test false e more = more e
+
+-- ---- ends
+
+goes_on : (i : Inst) (rest : List Inst) (y : Inst) (ys : List Inst) → ends_from i (rest ++ y ∷ ys) ≡ true → is_terminator i.op ≡ false
+goes_on i [] y ys e = not_false (is_terminator i.op) (and_left (not (is_terminator i.op)) (ends_from y ys) e)
+goes_on i (j ∷ rest) y ys e = not_false (is_terminator i.op) (and_left (not (is_terminator i.op)) (ends_from j (rest ++ y ∷ ys)) e)
+
+ends_rest : (i : Inst) (rest : List Inst) (y : Inst) (ys : List Inst) → ends_from i (rest ++ y ∷ ys) ≡ true → EndsOnce (rest ++ y ∷ ys)
+ends_rest i [] y ys e = and_right (not (is_terminator i.op)) (ends_from y ys) e
+ends_rest i (j ∷ rest) y ys e = and_right (not (is_terminator i.op)) (ends_from j (rest ++ y ∷ ys)) e
+
+no_ends_before : (xs : List Inst) (y : Inst) (ys : List Inst) → EndsOnce (xs ++ y ∷ ys) → NoEnds xs
+no_ends_before [] y ys e = tt
+no_ends_before (i ∷ xs) y ys e = (goes_on i xs y ys e, no_ends_before xs y ys (ends_rest i xs y ys e))
+
+no_ends_right : (xs ys : List Inst) → NoEnds (xs ++ ys) → NoEnds ys
+no_ends_right [] ys h = h
+no_ends_right (x ∷ xs) ys h = no_ends_right xs ys h.1
+
+-- ---- a block that is cut
+
+module _ (m : Module) (f : Func) (walk : List ℕ) (at : ℕ) (b : Block) (phis before insts : List Inst) (last : Inst) (after : List Inst) (cut : IsCut m f walk at b phis before insts last after) where
+  abbrev Rest : List Inst
+  Rest = (before ++ insts) ++ last ∷ after
+
+  abbrev Start : Known
+  Start = entry m f walk at b phis before insts last after cut
+
+  on_body : (n : ℕ) (i : Inst) → slice_get Rest n ≡ Some i → slice_get b.insts (length phis + n) ≡ Some i
+  on_body n i e = ap (λ is. slice_get is (length phis + n)) cut.parts ∙ get_behind phis Rest n i e
+
+  once_in : Once (Ids b.insts)
+  once_in = once_here m f walk at b phis before insts last after cut
+
+  module _ (front is : List Inst) (i : Inst) (parts : before ++ insts ≡ front ++ i ∷ is) where
+    rest_is : Rest ≡ front ++ i ∷ (is ++ last ∷ after)
+    rest_is = ap (λ l. l ++ last ∷ after) parts ∙ append_assoc front (i ∷ is) (last ∷ after)
+
+    in_rest : slice_get Rest (length front) ≡ Some i
+    in_rest = ap (λ l. slice_get l (length front)) rest_is ∙ get_middle front (is ++ last ∷ after) i
+
+    in_block_here : slice_get b.insts (length phis + length front) ≡ Some i
+    in_block_here = on_body (length front) i in_rest
+
+    in_room : length phis + length front ≤ length b.insts
+    in_room = let l = get_less b.insts (length phis + length front) i in_block_here in omega arith
+
+    -- an id of the body that stands before is one of those that ran
+    ran_before : (z : Id) (q : ℕ) (y : Inst) → slice_get b.insts q ≡ Some y → q < length phis + length front → same_id y.id z ≡ true → defines z Rest ≡ true → defines z front ≡ true
+    ran_before z q y e less h d =
+        let r = defined Rest z d in
+        let same : same_id y.id r.inst.id ≡ true = ap (same_id y.id) (same_is r.inst.id z r.is_it) ∙ h in
+        let place : q ≡ length phis + r.place = one_place m f walk at b phis before insts last after cut b.insts q (length phis + r.place) y r.inst e (on_body r.place r.inst r.here) same once_in in
+        get_defines front r.place r.inst z (sym (get_front front (i ∷ (is ++ last ∷ after)) r.place (omega arith)) ∙ ap (λ l. slice_get l r.place) (sym rest_is) ∙ r.here) r.is_it
+
+    defines_here : (z : Id) → defines z Rest ≡ true → among (Ids b.insts) z ≡ true
+    defines_here z d = sym (defines_among z b.insts) ∙ ap (defines z) cut.parts ∙ defines_append z phis Rest ∙ or_second (defines z phis) (defines z Rest) d
+
+    stands_here : (z : Id) → uses z i.opds ≡ true → is_phi i.op ≡ false → (w : List ℕ) → IsWalk (graph_of f) w → EndsAt w at → stands_on f z (length phis + length front) w ≡ true
+    stands_here z u plain w walks ends =
+        let slot = use_slot z i.opds u in
+        subst (λ n. stands_on f z n w ≡ true) (before_plain i.op (insts_at f at) (length phis + length front) plain)
+        (available m f walk at b phis before insts last after cut at b cut.there (length phis + length front) i in_block_here slot.0 (Val z) slot.1 at (walk_end_plain i.op slot.0 at plain) w walks ends)
+
+    known_before : (z : Id) → uses z i.opds ≡ true → is_phi i.op ≡ false → (defines z front || Start.values z) ≡ true
+    known_before z u plain = by_body (defines z Rest) refl where
+      v : Visit m f walk at b phis before insts last after cut
+      v = visit m f walk at b phis before insts last after cut
+
+      in_body : defines z Rest ≡ true → (stands_on f z 0 v.path ≡ true) ⊎ Earlier m f walk at b phis before insts last after cut z 0 (0 + (length phis + length front)) → (defines z front || Start.values z) ≡ true
+      in_body d (inl h) = absurd (true_false (sym h ∙ v.new z (defines_here z d)))
+      in_body d (inr e) = or_first (defines z front) (Start.values z) (ran_before z e.place e.inst e.here (let t = e.to in omega arith) e.is d)
+
+      outside : defines z Rest ≡ false → (stands_on f z (length phis) walk ≡ true) ⊎ Earlier m f walk at b phis before insts last after cut z (length phis) (length phis + length front) → (defines z front || Start.values z) ≡ true
+      outside d (inl h) = or_second (defines z front) (Start.values z) (ap (λ t. not t && stands_on f z (length phis) walk) d ∙ h)
+      outside d (inr e) =
+          absurd (true_false (sym (behind_defines phis Rest e.place e.inst z (ap (λ is. slice_get is e.place) (sym cut.parts) ∙ e.here) e.from e.is) ∙ d))
+
+      plain_sum : (n : ℕ) → n ≡ 0 + n
+      plain_sum n = omega arith
+
+      by_body : (t : Bool) → defines z Rest ≡ t → (defines z front || Start.values z) ≡ true
+      by_body true d =
+          in_body d (back m f walk at b phis before insts last after cut z v.path v.ends 0 (length phis + length front) (let r = in_room in omega arith)
+          (ap (λ n. stands_on f z n v.path) (sym (plain_sum (length phis + length front))) ∙ stands_here z u plain v.path v.walks v.ends))
+      by_body false d =
+          outside d (back m f walk at b phis before insts last after cut z walk cut.ends (length phis) (length front) in_room (stands_here z u plain walk cut.walks cut.ends))
+
+    new_here : (defines i.id front || Start.values i.id) ≡ false
+    new_here = neither (defines i.id front) (Start.values i.id) (not_true (defines i.id front) twice)
+        (ap (λ t. not t && stands_on f i.id (length phis) walk) (get_defines Rest (length front) i i.id in_rest (same_itself i.id)))
+      where
+        twice : defines i.id front ≡ true → ⊥
+        twice h =
+            let r = defined front i.id h in
+            let less = get_less front r.place r.inst r.here in
+            let there : slice_get Rest r.place ≡ Some r.inst = ap (λ l. slice_get l r.place) rest_is ∙ get_front front (i ∷ (is ++ last ∷ after)) r.place less ∙ r.here in
+            let place : length phis + r.place ≡ length phis + length front =
+                one_place m f walk at b phis before insts last after cut b.insts (length phis + r.place) (length phis + length front) r.inst i (on_body r.place r.inst there) in_block_here r.is_it once_in in
+            absurd (omega arith)
+
+  or_moved : (a d e : Bool) → (a || (d || e)) ≡ ((d || (a || false)) || e)
+  or_moved true true e = refl
+  or_moved true false e = refl
+  or_moved false true e = refl
+  or_moved false false e = refl
+
+  pub all_run : (is front : List Inst) (k : Known) → before ++ insts ≡ front ++ is → ((z : Id) → k.values z ≡ (defines z front || Start.values z)) → NoPhis is → NoEnds is → MayRunAll m f b.insts k is
+  all_run [] front k e same plain goes = tt
+  all_run (i ∷ is) front k e same plain goes =
+      (record {
+        statement = statement m f walk at b phis before insts last after cut (length phis + length front) i (in_block_here front is i e) plain.0 goes.0;
+        there = λ z u. same z ∙ known_before front is i e z u plain.0;
+        fresh = same i.id ∙ new_here front is i e;
+      },
+      all_run is (front ++ i ∷ []) (next k i) (e ∙ sym (append_more front i is))
+      (λ z. ap (λ b. same_id i.id z || b) (same z) ∙ or_moved (same_id i.id z) (defines z front) (Start.values z) ∙ ap (λ b. b || Start.values z) (sym (defines_append z front (i ∷ [])))) plain.1 goes.1)
+
+  stands_known : (a : Opd) → is_known Start.values a ≡ true → is_known (λ x. stands_on f x (length phis) walk) a ≡ true
+  stands_known (Val x) h = and_right (not (defines x Rest)) (stands_on f x (length phis) walk) h
+  stands_known (Lit l) h = refl
+  stands_known (Sym g) h = refl
+
+  pub entered_ready : (s : State) → IsEntered m f walk (length phis) s → IsReady m f b.insts Start s
+  entered_ready s en = record {
+    values = λ x t e v h. en.shaped.values x t e v (and_right (not (defines x Rest)) (stands_on f x (length phis) walk) h);
+    globals = en.shaped.globals;
+    found = λ x i h e. inl (found_phi phis Rest x i cut.phis_first (not_false (defines x Rest) (and_left (not (defines x Rest)) (stands_on f x (length phis) walk) h)) (ap (find x) (sym cut.parts) ∙ e));
+    ran = λ i d. elim d [ ];
+    own = λ i d. elim d [ ];
+    computed = λ i d. elim d [ ];
+    within = λ a h kind. en.within a (stands_known a h) kind;
+    roots = λ a c ha hc differ never. en.roots a c (stands_known a ha) (stands_known c hc) differ never;
+  }
+
+  pub ends_none : NoEnds (before ++ insts)
+  ends_none =
+      no_ends_right phis (before ++ insts)
+      (no_ends_before (phis ++ (before ++ insts)) last after
+      (subst EndsOnce (cut.parts ∙ sym (append_assoc phis (before ++ insts) (last ∷ after))) ((func m f walk at b phis before insts last after cut).blocks at b cut.there).ends))
+
+  -- instructions before the window
+  prefix : (bundles : List (List Id)) → AreBundles insts bundles → (groups : List (List Inst)) → order_in m b.insts insts bundles ≡ Some groups → (calls : Calls) → CallsKeepShapes m calls → CallsKeepObjects calls →
+      (xs : List Inst) (k : Known) (r : Reached) → MayRunAll m f b.insts k (xs ++ insts) → IsReady m f b.insts k r.state →
+      Instead (run_insts (types_of f) calls (xs ++ joined groups ++ last ∷ after) r) (run_insts (types_of f) calls (xs ++ insts ++ last ∷ after) r)
+  prefix bundles are groups e calls keep objects [] k r v ready = windows m f cut.formed b.insts calls keep objects k insts (last ∷ after) bundles are groups e v r ready
+  prefix bundles are groups e calls keep objects (x ∷ xs) k r v ready =
+      subst (λ w. Instead w (run_insts (types_of f) calls (x ∷ xs ++ insts ++ last ∷ after) r)) (sym (insts_append (types_of f) calls (x ∷ []) (xs ++ joined groups ++ last ∷ after) r (v.0.statement.no_end, tt)))
+      (subst (Instead (then_go (then_go (step (types_of f) calls x r) (λ q. On q)) (run_insts (types_of f) calls (xs ++ joined groups ++ last ∷ after))))
+      (sym (insts_append (types_of f) calls (x ∷ []) (xs ++ insts ++ last ∷ after) r (v.0.statement.no_end, tt)))
+      (by_step (step (types_of f) calls x r) refl (λ q d. prefix bundles are groups e calls keep objects xs (next k x) q v.1 (step_ready m f cut.formed b.insts calls keep k x r q v.0 ready d))))
+    where
+      by_step : (w : Went Reached) → step (types_of f) calls x r ≡ w →
+          ((q : Reached) → step (types_of f) calls x r ≡ On q → Instead (run_insts (types_of f) calls (xs ++ joined groups ++ last ∷ after) q) (run_insts (types_of f) calls (xs ++ insts ++ last ∷ after) q)) →
+          Instead (then_go (then_go w (λ q. On q)) (run_insts (types_of f) calls (xs ++ joined groups ++ last ∷ after))) (then_go (then_go w (λ q. On q)) (run_insts (types_of f) calls (xs ++ insts ++ last ∷ after)))
+      by_step Lost d more = inl refl
+      by_step (Halts n) d more = inr refl
+      by_step (On q) d more = more q d
+
+pub blocks_refine-proof : BlocksRefine
+blocks_refine-proof m f walk at b phis before insts last after cut bundles are groups e calls keep objects r en =
+    prefix m f walk at b phis before insts last after cut bundles are groups e calls keep objects before (entry m f walk at b phis before insts last after cut) r
+    (all_run m f walk at b phis before insts last after cut (before ++ insts) [] (entry m f walk at b phis before insts last after cut) refl (λ z. refl) cut.no_phis
+    (ends_none m f walk at b phis before insts last after cut))
+    (entered_ready m f walk at b phis before insts last after cut r.state en)

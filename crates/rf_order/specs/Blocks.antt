@@ -44,7 +44,7 @@ pub record IsCut (m : Module) (f : Func) (walk : List ℕ) (at : ℕ) (b : Block
   pub walks : IsWalk (graph_of f) walk
   pub ends : EndsAt walk at
   pub there : slice_get f.blocks at ≡ Some b
-  pub parts : b.insts ≡ phis ++ (before ++ insts) ++ last ∷ after
+  pub parts : b.insts ≡ phis ++ ((before ++ insts) ++ last ∷ after)
   pub phis_first : ArePhis phis
   pub no_phis : NoPhis (before ++ insts)
 

@@ -3,6 +3,7 @@
 //! Each law is the contract of a function that does nothing and that no program calls; a caller that calls it has the law.
 
 ghost use Rattle.rf_order.specs.Swaps.{EffectsSwap};
+ghost use Rattle.rf_order.specs.Blocks.{BlocksRefine};
 ghost use Rattle.rf_order.specs.Ready.{AccessesKeepApart, NeighboursSwap, RowsRefine, StepsKeepReady, WindowsRefine};
 ghost use Rattle.rf_order.specs.Steps.{StepsSwap};
 ghost use Rattle.rf_order.specs.Windows.{OrdersReorder};
@@ -47,4 +48,11 @@ pub fn rows_refine()
 /// A block's window in its order, with what stands behind it, comes to the same, where it was defined.
 pub fn windows_refine()
     ensures { WindowsRefine }
+{}
+
+/// In a formed module a block that a walk comes to, with a window in its order, comes to the same, where it was defined: for every list of
+/// bundles that has an order, over all calls that keep shapes and objects. The window holds no phi, and the groups have their members in
+/// their own order.
+pub fn blocks_refine()
+    ensures { BlocksRefine }
 {}
