@@ -1,5 +1,5 @@
 -- Where the form of an address leads: in a ready state a pointer is poison, or its root with the symbol and the constant added.
-use Rattle.std.proofs.Common.{◌≡◌, refl, sym, ap, ◌∙◌, subst, ℕ, ℤ, zero, suc, pos, negsuc, neg_ℤ, ◌+ℤ◌, ◌-ℤ◌, ◌*ℤ◌, ◌+◌, ◌*◌, ◌/◌, ◌%◌, ◌^◌, ◌<◌, ◌≤◌, ◌⊎◌, inl, inr, Bool, true, false, not, ◌&&◌, ◌||◌, cond, Option, None, Some, List, [], ◌∷◌, ◌++◌, length, map, nat_eq, nat_le, int_le, slice_get, option_map, option_and_then, FitsSigned, arith}
+use Rattle.std.proofs.Common.{◌≡◌, refl, sym, ap, ◌∙◌, subst, ℕ, ℤ, zero, suc, pos, negsuc, neg_ℤ, ◌+ℤ◌, ◌-ℤ◌, ◌*ℤ◌, ◌+◌, ◌*◌, ◌/◌, ◌%◌, ◌^◌, ◌<◌, ◌≤◌, ◌⊎◌, inl, inr, Bool, true, false, not, ◌&&◌, ◌||◌, cond, Option, None, Some, List, [], ◌∷◌, ◌++◌, length, map, nat_eq, nat_le, nat_lt, int_le, slice_get, option_map, option_and_then, FitsSigned, arith}
 use Rattle.std.specs.Int.{w64, int_wrap}
 use Rattle.std.specs.List.{AllZip, All}
 use Rattle.std.specs.Int.Bits.{bit_or, bit_and, or_add_and}
@@ -28,7 +28,7 @@ use Rattle.ir_types.specs.declared.func.Func.{Func}
 use Rattle.ir_types.specs.declared.module.Module.{Module}
 use Rattle.ir_types.specs.Typed.{is_width, lane_width, IsLiteral, IsStep, HasTwoIndices, IsTyped}
 use Rattle.ir_types.specs.Formed.{opd_ty, IsOpd, IsFormed}
-use Rattle.ir_types.proofs.Formed.{Every, every_of_all, typed_valued}
+use Rattle.ir_types.proofs.Formed.{Every, every_of_all, IsValued, typed_valued}
 use Rattle.ir_types.proofs.Among.{same_is, same_itself}
 use Rattle.ir_model.specs.declared.value.Value.{Value}
 use Rattle.ir_model.specs.declared.value.Value.TheVariants.{Lane as LaneValue, Row as RowValue, Ptr as PtrValue}
@@ -47,7 +47,7 @@ use Rattle.vx_view.specs.Answers.{find}
 use Rattle.vx_view.specs.Addresses.{Symbol, Offset, Form, scales_of, beside_symbol, with_symbol, with_lane, with_index, with_indices, Led, led_op, led_by, led_back, Summand, Number, Poison, Value as ValueSummand, Other, summand_of, summand, plus, summed, is_sum, is_wide, summed_by, sum_back, back_from, symbol_back, or_stay, Walked, pointers, symbols, form_of, start, form_in}
 use Rattle.rf_order.specs.Steps.{uses}
 use Rattle.rf_order.specs.Ready.{Known, IsIn, IsStatement, formula, has_formula, IsComputed, is_known, IsReady}
-use Rattle.rf_order.proofs.Shapes.{OpdShape, opd_shape, OpdsShape, opds_shape}
+use Rattle.rf_order.proofs.Shapes.{OpdShape, global_there, opd_shape, OpdsShape, opds_shape}
 
 true_false : true ≡ false → ⊥
 true_false e = cc
@@ -165,7 +165,7 @@ module _ (m : Module) (f : Func) (formed : IsFormed m) (block : List Inst) (k : 
     same : (p : Pointer) → led_to (stepped w scale p lane) (symbol_value types s.env o.symbol) o.constant ≡ led_to p (symbol_value types s.env q.symbol) q.constant
     symbol : KnownSymbol q.symbol
 
-  indexed : (x : Opd) (w scale : ℕ) (lane : Lane) (o q : Offset) → IsOpd x → is_known k.values x ≡ true → type_of types x ≡ Int w → value_of s.env x ≡ LaneValue lane → KnownSymbol o.symbol →
+  indexed : (x : Opd) (w scale : ℕ) (lane : Lane) (o q : Offset) → IsOpd x → is_known (length m.globals) k.values x ≡ true → type_of types x ≡ Int w → value_of s.env x ≡ LaneValue lane → KnownSymbol o.symbol →
       with_index x scale o ≡ Some q → Indexed o q w scale lane
   indexed (Lit l) w scale lane o q lit there t v known e = by_lanes l.ty l.lanes t v e (every_of_all (λ lane. IsLane (lane_width l.ty) lane) l.lanes lit.2) where
     width : (u w : ℕ) → Int u ≡ Int w → u ≡ w
@@ -201,14 +201,14 @@ module _ (m : Module) (f : Func) (formed : IsFormed m) (block : List Inst) (k : 
 
   -- a pointer that leads further back
   pub record LedBack (p : Opd) (o : Offset) (q : Opd) (b : Offset) : Type 0 where
-    pub known : is_known k.values q ≡ true
+    pub known : is_known (length m.globals) k.values q ≡ true
     pub symbol : KnownSymbol b.symbol
     pub leads_on : (leads p o ≡ None) ⊎ (leads p o ≡ leads q b)
 
-  pub known_opd : (os : List Opd) (o : Opd) → ((x : Id) → uses x os ≡ true → k.values x ≡ true) → ((x : Id) → o ≡ Val x → uses x os ≡ true) → is_known k.values o ≡ true
-  known_opd os (Val x) there h = there x (h x refl)
-  known_opd os (Lit l) there h = refl
-  known_opd os (Sym g) there h = refl
+  pub known_opd : (os : List Opd) (o : Opd) → ((x : Id) → uses x os ≡ true → k.values x ≡ true) → ((x : Id) → o ≡ Val x → uses x os ≡ true) → IsValued (opd_ty m f o) → is_known (length m.globals) k.values o ≡ true
+  known_opd os (Val x) there h v = there x (h x refl)
+  known_opd os (Lit l) there h v = refl
+  known_opd os (Sym g) there h v = global_there g (nat_lt g (length m.globals)) refl v
 
   pub uses_here : (o : Opd) (os : List Opd) (x : Id) → o ≡ Val x → uses x (o ∷ os) ≡ true
   uses_here (Val y) os x e = let same : y ≡ x = cc in ap (λ b. b || uses x os) (ap (λ z. same_id z x) same ∙ same_itself x)
@@ -254,7 +254,7 @@ module _ (m : Module) (f : Func) (formed : IsFormed m) (block : List Inst) (k : 
     one None e = absurd cc
     one (Some c) e = e
 
-  one_index : (id : Id) (elem : Elem) (w : ℕ) (p x : Opd) (o b : Offset) → IsOpd x → is_known k.values p ≡ true → is_known k.values x ≡ true → type_of types x ≡ Int w → HasShape (length s.memory) (Int w) (value_of s.env x) →
+  one_index : (id : Id) (elem : Elem) (w : ℕ) (p x : Opd) (o b : Offset) → IsOpd x → is_known (length m.globals) k.values p ≡ true → is_known (length m.globals) k.values x ≡ true → type_of types x ≡ Int w → HasShape (length s.memory) (Int w) (value_of s.env x) →
       KnownSymbol o.symbol → with_indices (scales_of elem) (x ∷ []) o ≡ Some b →
       (tp : Ty) → (s.env id ≡ PtrValue None) ⊎ (option_map PtrValue (walked elem (tp ∷ Int w ∷ []) (value_of s.env p ∷ value_of s.env x ∷ [])) ≡ Some (s.env id)) → LedBack (Val id) o p b
   one_index id elem w p x o b lit kp kx t shape known e tp c =
@@ -278,7 +278,7 @@ module _ (m : Module) (f : Func) (formed : IsFormed m) (block : List Inst) (k : 
           inr (more (narrow_some w (stepped w (elem_size elem) (pointer p) lane) (s.env id)
           (walked_one elem lane ∙ ap (λ v. option_map PtrValue (walked elem (tp ∷ Int w ∷ []) (value_of s.env p ∷ v ∷ []))) (sym is) ∙ c)))
 
-  two_indices : (id : Id) (n e w u : ℕ) (p x y : Opd) (o b : Offset) → IsOpd x → IsOpd y → is_known k.values p ≡ true → is_known k.values x ≡ true → is_known k.values y ≡ true →
+  two_indices : (id : Id) (n e w u : ℕ) (p x y : Opd) (o b : Offset) → IsOpd x → IsOpd y → is_known (length m.globals) k.values p ≡ true → is_known (length m.globals) k.values x ≡ true → is_known (length m.globals) k.values y ≡ true →
       type_of types x ≡ Int w → type_of types y ≡ Int u → HasShape (length s.memory) (Int w) (value_of s.env x) → HasShape (length s.memory) (Int u) (value_of s.env y) →
       KnownSymbol o.symbol → with_indices (scales_of (Array n e)) (x ∷ y ∷ []) o ≡ Some b →
       (tp : Ty) → (s.env id ≡ PtrValue None) ⊎ (option_map PtrValue (walked (Array n e) (tp ∷ Int w ∷ Int u ∷ []) (value_of s.env p ∷ value_of s.env x ∷ value_of s.env y ∷ [])) ≡ Some (s.env id)) → LedBack (Val id) o p b
@@ -337,7 +337,7 @@ module _ (m : Module) (f : Func) (formed : IsFormed m) (block : List Inst) (k : 
     second None = None
     second (Some l) = Some l.1
 
-  pub led_one : (p q : Opd) (o b : Offset) → is_known k.values p ≡ true → KnownSymbol o.symbol → led_back block p o ≡ Some (q, b) → LedBack p o q b
+  pub led_one : (p q : Opd) (o b : Offset) → is_known (length m.globals) k.values p ≡ true → KnownSymbol o.symbol → led_back block p o ≡ Some (q, b) → LedBack p o q b
   led_one (Lit l) q o b kn known e = absurd cc
   led_one (Sym g) q o b kn known e = absurd cc
   led_one (Val x) q o b kn known e = by_found (find x block) refl e where
@@ -372,6 +372,9 @@ module _ (m : Module) (f : Func) (formed : IsFormed m) (block : List Inst) (k : 
       lits : (os : List Opd) → i.opds ≡ os → Every IsOpd os
       lits os eo = subst (Every IsOpd) eo (every_of_all IsOpd i.opds st.0.operands)
 
+      valued : (os : List Opd) → i.opds ≡ os → Every IsValued (map (opd_ty m f) os)
+      valued os eo = subst (λ os. Every IsValued (map (opd_ty m f) os)) eo (typed_valued m (params_formed m formed) f.ret i.op i.ty (map (opd_ty m f) i.opds) st.0.typed st.0.calling)
+
       there : (os : List Opd) → i.opds ≡ os → (x : Id) → uses x os ≡ true → k.values x ≡ true
       there os eo x u = st.1 x (ap (uses x) eo ∙ u)
 
@@ -383,8 +386,8 @@ module _ (m : Module) (f : Func) (formed : IsFormed m) (block : List Inst) (k : 
           let l = same_led p q (with_indices (scales_of elem) (y ∷ []) o) b (ap (λ os. led_op (Gep elem inbounds) os o) (sym eo) ∙ e) in
           subst (λ q. LedBack (Val x) o q b) l.0
           (one_index x elem w p y o b (lits (p ∷ y ∷ []) eo).1.0
-          (known_opd (p ∷ y ∷ []) p (there (p ∷ y ∷ []) eo) (λ z d. uses_here p (y ∷ []) z d))
-          (known_opd (p ∷ y ∷ []) y (there (p ∷ y ∷ []) eo) (λ z d. uses_later p (y ∷ []) z (uses_here y [] z d))) ty
+          (known_opd (p ∷ y ∷ []) p (there (p ∷ y ∷ []) eo) (λ z d. uses_here p (y ∷ []) z d) (valued (p ∷ y ∷ []) eo).0)
+          (known_opd (p ∷ y ∷ []) y (there (p ∷ y ∷ []) eo) (λ z d. uses_later p (y ∷ []) z (uses_here y [] z d)) (valued (p ∷ y ∷ []) eo).1.0) ty
           (subst (λ t. HasShape (length s.memory) t (value_of s.env y)) ty (all_shapes (p ∷ y ∷ []) eo).1.0) known l.1 (type_of types p)
           (subst (λ t. (s.env x ≡ PtrValue None) ⊎ (option_map PtrValue (walked elem (type_of types p ∷ t ∷ []) (value_of s.env p ∷ value_of s.env y ∷ [])) ≡ Some (s.env x))) ty (computed (p ∷ y ∷ []) eo)))
 
@@ -393,9 +396,9 @@ module _ (m : Module) (f : Func) (formed : IsFormed m) (block : List Inst) (k : 
           let l = same_led p q (with_indices (scales_of elem) (y ∷ z ∷ []) o) b (ap (λ os. led_op (Gep elem inbounds) os o) (sym eo) ∙ e) in
           subst (λ q. LedBack (Val x) o q b) l.0
           (two_indices x n c u w p y z o b (lits (p ∷ y ∷ z ∷ []) eo).1.0 (lits (p ∷ y ∷ z ∷ []) eo).1.1.0
-          (known_opd (p ∷ y ∷ z ∷ []) p (there (p ∷ y ∷ z ∷ []) eo) (λ v d. uses_here p (y ∷ z ∷ []) v d))
-          (known_opd (p ∷ y ∷ z ∷ []) y (there (p ∷ y ∷ z ∷ []) eo) (λ v d. uses_later p (y ∷ z ∷ []) v (uses_here y (z ∷ []) v d)))
-          (known_opd (p ∷ y ∷ z ∷ []) z (there (p ∷ y ∷ z ∷ []) eo) (λ v d. uses_later p (y ∷ z ∷ []) v (uses_later y (z ∷ []) v (uses_here z [] v d)))) ty tz
+          (known_opd (p ∷ y ∷ z ∷ []) p (there (p ∷ y ∷ z ∷ []) eo) (λ v d. uses_here p (y ∷ z ∷ []) v d) (valued (p ∷ y ∷ z ∷ []) eo).0)
+          (known_opd (p ∷ y ∷ z ∷ []) y (there (p ∷ y ∷ z ∷ []) eo) (λ v d. uses_later p (y ∷ z ∷ []) v (uses_here y (z ∷ []) v d)) (valued (p ∷ y ∷ z ∷ []) eo).1.0)
+          (known_opd (p ∷ y ∷ z ∷ []) z (there (p ∷ y ∷ z ∷ []) eo) (λ v d. uses_later p (y ∷ z ∷ []) v (uses_later y (z ∷ []) v (uses_here z [] v d))) (valued (p ∷ y ∷ z ∷ []) eo).1.1.0) ty tz
           (subst (λ t. HasShape (length s.memory) t (value_of s.env y)) ty (all_shapes (p ∷ y ∷ z ∷ []) eo).1.0)
           (subst (λ t. HasShape (length s.memory) t (value_of s.env z)) tz (all_shapes (p ∷ y ∷ z ∷ []) eo).1.1.0) known
           (ap (λ elem. with_indices (scales_of elem) (y ∷ z ∷ []) o) (sym ee) ∙ l.1) (type_of types p)
@@ -428,11 +431,11 @@ module _ (m : Module) (f : Func) (formed : IsFormed m) (block : List Inst) (k : 
 
   -- a pointer is poison, or leads where the walk ended
   pub record LedTo (p : Pointer) (w : Walked) : Type 0 where
-    pub known : is_known k.values w.pointer ≡ true
+    pub known : is_known (length m.globals) k.values w.pointer ≡ true
     pub symbol : KnownSymbol w.offset.symbol
     pub leads_on : (p ≡ None) ⊎ (p ≡ leads w.pointer w.offset)
 
-  pub led_pointers : (n : ℕ) (at : Pointer) (p : Opd) (o : Offset) → is_known k.values p ≡ true → KnownSymbol o.symbol → (at ≡ None) ⊎ (at ≡ leads p o) → LedTo at (pointers n block p o)
+  pub led_pointers : (n : ℕ) (at : Pointer) (p : Opd) (o : Offset) → is_known (length m.globals) k.values p ≡ true → KnownSymbol o.symbol → (at ≡ None) ⊎ (at ≡ leads p o) → LedTo at (pointers n block p o)
   led_pointers zero at p o kn known l = record { known = kn; symbol = known; leads_on = l }
   led_pointers (suc n) at p o kn known l = by_back (led_back block p o) refl (λ q b kq kb l. led_pointers n at q b kq kb l) where
     joined : (q : Opd) (b : Offset) → (at ≡ None) ⊎ (at ≡ leads p o) → (leads p o ≡ None) ⊎ (leads p o ≡ leads q b) → (at ≡ None) ⊎ (at ≡ leads q b)
@@ -440,7 +443,7 @@ module _ (m : Module) (f : Func) (formed : IsFormed m) (block : List Inst) (k : 
     joined q b (inr e) (inl d) = inl (e ∙ d)
     joined q b (inr e) (inr d) = inr (e ∙ d)
 
-    by_back : (led : Option Led) → led_back block p o ≡ led → ((q : Opd) (b : Offset) → is_known k.values q ≡ true → KnownSymbol b.symbol → (at ≡ None) ⊎ (at ≡ leads q b) → LedTo at (pointers n block q b)) →
+    by_back : (led : Option Led) → led_back block p o ≡ led → ((q : Opd) (b : Offset) → is_known (length m.globals) k.values q ≡ true → KnownSymbol b.symbol → (at ≡ None) ⊎ (at ≡ leads q b) → LedTo at (pointers n block q b)) →
         LedTo at (or_stay (record { pointer = p; offset = o; left = suc n }) led (λ led. pointers n block led.0 led.1))
     by_back None e more = record { known = kn; symbol = known; leads_on = l }
     by_back (Some led) e more = let r = led_one p led.0 o led.1 kn known e in more led.0 led.1 r.known r.symbol (joined led.0 led.1 l r.leads_on)

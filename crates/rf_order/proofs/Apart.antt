@@ -17,6 +17,8 @@ use Rattle.ir_types.specs.declared.module.Module.{Module}
 use Rattle.ir_types.specs.Typed.{is_stored, IsAlign, IsTyped}
 use Rattle.ir_types.specs.Formed.{opd_ty, IsFormed}
 use Rattle.ir_types.proofs.Among.{same_is}
+use Rattle.ir_types.proofs.Formed.{Every, IsValued, typed_valued}
+use Rattle.ir_model.proofs.Sound.{params_formed}
 use Rattle.ir_model.specs.declared.value.Value.{Value}
 use Rattle.ir_model.specs.declared.value.Value.TheVariants.{Lane as LaneValue, Row as RowValue, Ptr as PtrValue}
 use Rattle.ir_model.specs.Values.{Lane, Pointer, Env, pointer_of, literal_value, value_of, type_of}
@@ -98,7 +100,7 @@ module _ (m : Module) (f : Func) (formed : IsFormed m) (block : List Inst) (k : 
   form_leads g = led_to (pointer_of (value_of s.env g.root)) (symbol_value (types_of f) s.env g.offset.symbol) g.offset.constant
 
   pub record Formed (p : Opd) (g : Form) : Type 0 where
-    pub known : is_known k.values g.root ≡ true
+    pub known : is_known (length m.globals) k.values g.root ≡ true
     pub leads_on : (pointer_of (value_of s.env p) ≡ None) ⊎ (pointer_of (value_of s.env p) ≡ form_leads g)
 
   led_start : (p : Pointer) → ((q : ℕ × ℤ) → p ≡ Some q → FitsSigned w64 q.1) → p ≡ led_to p (Some (pos 0)) (pos 0)
@@ -107,7 +109,7 @@ module _ (m : Module) (f : Func) (formed : IsFormed m) (block : List Inst) (k : 
     zeros : (z : ℤ) → z ≡ z +ℤ pos 0 +ℤ pos 0
     zeros z = omega (arith, ints)
 
-  pub form_formed : (p : Opd) → is_known k.values p ≡ true → ((q : ℕ × ℤ) → pointer_of (value_of s.env p) ≡ Some q → FitsSigned w64 q.1) → Formed p (form_in block p)
+  pub form_formed : (p : Opd) → is_known (length m.globals) k.values p ≡ true → ((q : ℕ × ℤ) → pointer_of (value_of s.env p) ≡ Some q → FitsSigned w64 q.1) → Formed p (form_in block p)
   form_formed p kn fits =
       let w = led_pointers m f formed block k s ready 64 (pointer_of (value_of s.env p)) p start kn tt (inr (led_start (pointer_of (value_of s.env p)) fits)) in
       let e = pointers 64 block p start in
@@ -209,7 +211,7 @@ module _ (m : Module) (f : Func) (formed : IsFormed m) (block : List Inst) (k : 
   -- an access and its touch
   record Touches (i : Inst) (a : Access) : Type 0 where
     access : access_of i ≡ Some a
-    known : is_known k.values a.pointer ≡ true
+    known : is_known (length m.globals) k.values a.pointer ≡ true
     fits : (q : ℕ × ℤ) → pointer_of (value_of s.env a.pointer) ≡ Some q → FitsSigned w64 q.1
     touch : touch_of i.op i.ty (map (value_of s.env) i.opds) ≡ Some (record { pointer = pointer_of (value_of s.env a.pointer); size = a.size; writes = a.writes })
 
@@ -247,6 +249,9 @@ module _ (m : Module) (f : Func) (formed : IsFormed m) (block : List Inst) (k : 
     shapes : OpdsShape m f s i.opds
     shapes = shapes_of m f formed block k s ready i st there
 
+    valued : (os : List Opd) → i.opds ≡ os → Every IsValued (map (opd_ty m f) os)
+    valued os eo = subst (λ os. Every IsValued (map (opd_ty m f) os)) eo (typed_valued m (params_formed m formed) f.ret i.op i.ty (map (opd_ty m f) i.opds) st.typed st.calling)
+
     by_op : (op : Op) → i.op ≡ op → (touch_of i.op i.ty (map (value_of s.env) i.opds) ≡ None) ⊎ ((a : Access) × Touches i a)
     by_op (Load align) is =
         let typed : (is_stored i.ty ≡ true) × IsAlign align × (map (opd_ty m f) i.opds ≡ Some Ptr ∷ []) = subst (λ op. IsTyped f.ret op i.ty (map (opd_ty m f) i.opds)) is st.typed in
@@ -255,7 +260,7 @@ module _ (m : Module) (f : Func) (formed : IsFormed m) (block : List Inst) (k : 
         inr (record { pointer = os.0; size = bytes_of i.ty; writes = false },
         record {
           access = ap (λ op. access_by op i.ty i.opds) is ∙ ap (access_by (Load align) i.ty) os.1;
-          known = known_opd m f formed block k s ready (os.0 ∷ []) os.0 (λ z u. there z (ap (uses z) os.1 ∙ u)) (λ z d. uses_here m f formed block k s ready os.0 [] z d);
+          known = known_opd m f formed block k s ready (os.0 ∷ []) os.0 (λ z u. there z (ap (uses z) os.1 ∙ u)) (λ z d. uses_here m f formed block k s ready os.0 [] z d) (valued (os.0 ∷ []) os.1).0;
           fits = pointer_fits (length s.memory) (value_of s.env os.0) (subst (λ t. HasShape (length s.memory) t (value_of s.env os.0)) os.2 sh.0);
           touch = ap (λ op. touch_of op i.ty (map (value_of s.env) i.opds)) is ∙ ap (λ os. touch_of (Load align) i.ty (map (value_of s.env) os)) os.1
               ∙ ap (λ n. Some (record { pointer = pointer_of (value_of s.env os.0); size = n; writes = false })) (sym (size_is i.ty));
@@ -269,7 +274,7 @@ module _ (m : Module) (f : Func) (formed : IsFormed m) (block : List Inst) (k : 
         record {
           access = ap (λ op. access_by op i.ty i.opds) is ∙ ap (access_by (Store align) i.ty) os.2;
           known = known_opd m f formed block k s ready (os.0 ∷ os.1 ∷ []) os.1 (λ z u. there z (ap (uses z) os.2 ∙ u))
-              (λ z d. uses_later m f formed block k s ready os.0 (os.1 ∷ []) z (uses_here m f formed block k s ready os.1 [] z d));
+              (λ z d. uses_later m f formed block k s ready os.0 (os.1 ∷ []) z (uses_here m f formed block k s ready os.1 [] z d)) (valued (os.0 ∷ os.1 ∷ []) os.2).1.0;
           fits = pointer_fits (length s.memory) (value_of s.env os.1) (subst (λ t. HasShape (length s.memory) t (value_of s.env os.1)) os.4 sh.1.0);
           touch = ap (λ op. touch_of op i.ty (map (value_of s.env) i.opds)) is ∙ ap (λ os. touch_of (Store align) i.ty (map (value_of s.env) os)) os.2
               ∙ ap (λ n. Some (record { pointer = pointer_of (value_of s.env os.1); size = n; writes = true }))

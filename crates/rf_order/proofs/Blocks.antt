@@ -541,10 +541,10 @@ module _ (m : Module) (f : Func) (walk : List ℕ) (at : ℕ) (b : Block) (phis 
       all_run is (front ++ i ∷ []) (next k i) (e ∙ sym (append_more front i is))
       (λ z. ap (λ b. same_id i.id z || b) (same z) ∙ or_moved (same_id i.id z) (defines z front) (Start.values z) ∙ ap (λ b. b || Start.values z) (sym (defines_append z front (i ∷ [])))) plain.1 goes.1)
 
-  stands_known : (a : Opd) → is_known Start.values a ≡ true → is_known (λ x. stands_on f x (length phis) walk) a ≡ true
+  stands_known : (a : Opd) → is_known (length m.globals) Start.values a ≡ true → is_known (length m.globals) (λ x. stands_on f x (length phis) walk) a ≡ true
   stands_known (Val x) h = and_right (not (defines x Rest)) (stands_on f x (length phis) walk) h
   stands_known (Lit l) h = refl
-  stands_known (Sym g) h = refl
+  stands_known (Sym g) h = h
 
   pub entered_ready : (s : State) → IsEntered m f walk (length phis) s → IsReady m f b.insts Start s
   entered_ready s en = record {

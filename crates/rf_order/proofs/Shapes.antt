@@ -57,6 +57,11 @@ or_second false b h = h
 
 -- ---- operands
 
+-- a global that has a type is one
+pub global_there : (g : ℕ) (b : Bool) → b ≡ b → IsValued (if b then Some Ptr else None) → b ≡ true
+global_there g true e v = refl
+global_there g false e v = elim v [ ]
+
 abbrev Somes : List Ty → List (Option Ty)
 Somes ts = map (λ (t : Ty). Some t) ts
 
@@ -78,7 +83,7 @@ pub record OpdsShape (m : Module) (f : Func) (s : State) (os : List Opd) : Type 
   pub shapes : AllZip (HasShape (length s.memory)) (map (type_of (types_of f)) os) (map (value_of s.env) os)
 
 module _ (m : Module) (f : Func) (block : List Inst) (k : Known) (s : State) (ready : IsReady m f block k s) where
-  pub opd_shape : (o : Opd) → IsOpd o → is_known k.values o ≡ true → IsValued (opd_ty m f o) → OpdShape m f s o
+  pub opd_shape : (o : Opd) → IsOpd o → is_known (length m.globals) k.values o ≡ true → IsValued (opd_ty m f o) → OpdShape m f s o
   opd_shape (Val x) h there v = by_type (value_ty f x) refl v
     where
       by_type : (u : Option Ty) → value_ty f x ≡ u → IsValued u → OpdShape m f s (Val x)
@@ -102,17 +107,17 @@ module _ (m : Module) (f : Func) (block : List Inst) (k : Known) (s : State) (re
   pub opds_shape : (os : List Opd) → Every IsOpd os → ((x : Id) → uses x os ≡ true → k.values x ≡ true) → Every IsValued (map (opd_ty m f) os) → OpdsShape m f s os
   opds_shape [] h there v = record { types = refl; shapes = tt }
   opds_shape (o ∷ os) h there v =
-      let first = opd_shape o h.0 (known_first o there) v.0 in
+      let first = opd_shape o h.0 (known_first o there v.0) v.0 in
       let rest = opds_shape os h.1 (λ x e. there x (later o x e)) v.1 in
       record {
         types = ap (λ u. u ∷ map (opd_ty m f) os) first.type ∙ ap (λ us. Some (type_of (types_of f) o) ∷ us) rest.types;
         shapes = (first.shape, rest.shapes);
       }
     where
-      known_first : (o : Opd) → ((x : Id) → uses x (o ∷ os) ≡ true → k.values x ≡ true) → is_known k.values o ≡ true
-      known_first (Val x) h = h x (or_first (same_id x x) (uses x os) (same_itself x))
-      known_first (Lit l) h = refl
-      known_first (Sym g) h = refl
+      known_first : (o : Opd) → ((x : Id) → uses x (o ∷ os) ≡ true → k.values x ≡ true) → IsValued (opd_ty m f o) → is_known (length m.globals) k.values o ≡ true
+      known_first (Val x) h v = h x (or_first (same_id x x) (uses x os) (same_itself x))
+      known_first (Lit l) h v = refl
+      known_first (Sym g) h v = global_there g (nat_lt g (length m.globals)) refl v
 
       later : (o : Opd) (x : Id) → uses x os ≡ true → uses x (o ∷ os) ≡ true
       later (Val y) x e = or_second (same_id y x) (uses x os) e
@@ -332,15 +337,15 @@ module _ (m : Module) (f : Func) (formed : IsFormed m) (block : List Inst) (call
 
     -- a root that was known before
     abbrev before : Opd → Type 0
-    before o = (is_known k.values o ≡ true) × (value_of New o ≡ value_of r.state.env o)
+    before o = (is_known (length m.globals) k.values o ≡ true) × (value_of New o ≡ value_of r.state.env o)
 
-    root_case : (o : Opd) → is_known (λ x. same_id i.id x || k.values x) o ≡ true → (o ≡ Val i.id) ⊎ before o
+    root_case : (o : Opd) → is_known (length m.globals) (λ x. same_id i.id x || k.values x) o ≡ true → (o ≡ Val i.id) ⊎ before o
     root_case (Val x) h = by_id (same_id i.id x) refl h where
       by_id : (b : Bool) → same_id i.id x ≡ b → (b || k.values x) ≡ true → (Val x ≡ Val i.id) ⊎ before (Val x)
       by_id true e h = inl (ap Val (sym (same_is i.id x e)))
       by_id false e h = inr (h, same_value x h)
     root_case (Lit l) h = inr (refl, refl)
-    root_case (Sym g) h = inr (refl, refl)
+    root_case (Sym g) h = inr (h, refl)
 
     -- an alloca's value
     allocated : is_alloca i.op ≡ true → (pointer_of (New i.id) ≡ Some (length r.state.memory, pos 0)) × (length back.memory ≡ length r.state.memory + 1)
@@ -412,7 +417,7 @@ module _ (m : Module) (f : Func) (formed : IsFormed m) (block : List Inst) (call
           λ o z y ea eb. h o y z (ap (λ x. pointer_of (value_of New x)) (sym d) ∙ eb) ea
       by_case (inr old) (inr also) = λ o z y ea eb. ready.roots a b old.0 also.0 differ never o z y (ap pointer_of (sym old.1) ∙ ea) (ap pointer_of (sym also.1) ∙ eb)
 
-    within : (b : Opd) → is_known (λ x. same_id i.id x || k.values x) b ≡ true → has_kind (kind_of m b) ≡ true → NamesOne (length back.memory) (pointer_of (value_of New b))
+    within : (b : Opd) → is_known (length m.globals) (λ x. same_id i.id x || k.values x) b ≡ true → has_kind (kind_of m b) ≡ true → NamesOne (length back.memory) (pointer_of (value_of New b))
     within b h kind = by_case (root_case b h) where
       more : (p : Pointer) → NamesOne (length r.state.memory) p → NamesOne (length back.memory) p
       more None n = tt

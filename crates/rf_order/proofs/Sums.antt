@@ -26,6 +26,8 @@ use Rattle.ir_types.specs.declared.module.Module.{Module}
 use Rattle.ir_types.specs.Typed.{is_number, is_value, has_flags, IsTyped}
 use Rattle.ir_types.specs.Formed.{given_ty, opd_ty, value_ty, IsFormed}
 use Rattle.ir_types.proofs.Among.{same_is}
+use Rattle.ir_types.proofs.Formed.{Every, IsValued, typed_valued}
+use Rattle.ir_model.proofs.Sound.{params_formed}
 use Rattle.ir_model.specs.declared.value.Value.{Value}
 use Rattle.ir_model.specs.declared.value.Value.TheVariants.{Lane as LaneValue, Row as RowValue, Ptr as PtrValue}
 use Rattle.ir_model.specs.Values.{Lane, Pointer, Env, pointer_of, literal_value, value_of, type_of}
@@ -190,7 +192,7 @@ module _ (m : Module) (f : Func) (formed : IsFormed m) (block : List Inst) (k : 
   Means (ValueSummand v) x = (s.env v ≡ LaneValue x) × (types v ≡ Int 64) × (k.values v ≡ true)
   Means Other x = Unit {0}
 
-  means : (o : Opd) (x : Lane) → type_of types o ≡ Int 64 → value_of s.env o ≡ LaneValue x → is_known k.values o ≡ true → Means (summand o) x
+  means : (o : Opd) (x : Lane) → type_of types o ≡ Int 64 → value_of s.env o ≡ LaneValue x → is_known (length m.globals) k.values o ≡ true → Means (summand o) x
   means (Val v) x t e kn = (e, t, kn)
   means (Sym g) x t e kn = tt
   means (Lit l) x t e kn = by_lanes l.lanes (ap (λ t. literal_value t l.lanes) (sym t) ∙ e) where
@@ -331,11 +333,14 @@ module _ (m : Module) (f : Func) (formed : IsFormed m) (block : List Inst) (k : 
     yl : (lane : Lane) × (value_of s.env os.1 ≡ LaneValue lane)
     yl = lane_shape (length s.memory) 64 (value_of s.env os.1) (subst (λ t. HasShape (length s.memory) t (value_of s.env os.1)) os.4 two_shapes.1.0)
 
-    known_first : is_known k.values os.0 ≡ true
-    known_first = known_opd m f formed block k s ready (os.0 ∷ os.1 ∷ []) os.0 there (λ z d. uses_here m f formed block k s ready os.0 (os.1 ∷ []) z d)
+    valued : Every IsValued (map (opd_ty m f) (os.0 ∷ os.1 ∷ []))
+    valued = subst (λ os. Every IsValued (map (opd_ty m f) os)) os.2 (typed_valued m (params_formed m formed) f.ret i.op i.ty (map (opd_ty m f) i.opds) st.0.typed st.0.calling)
 
-    known_last : is_known k.values os.1 ≡ true
-    known_last = known_opd m f formed block k s ready (os.0 ∷ os.1 ∷ []) os.1 there (λ z d. uses_later m f formed block k s ready os.0 (os.1 ∷ []) z (uses_here m f formed block k s ready os.1 [] z d))
+    known_first : is_known (length m.globals) k.values os.0 ≡ true
+    known_first = known_opd m f formed block k s ready (os.0 ∷ os.1 ∷ []) os.0 there (λ z d. uses_here m f formed block k s ready os.0 (os.1 ∷ []) z d) valued.0
+
+    known_last : is_known (length m.globals) k.values os.1 ≡ true
+    known_last = known_opd m f formed block k s ready (os.0 ∷ os.1 ∷ []) os.1 there (λ z d. uses_later m f formed block k s ready os.0 (os.1 ∷ []) z (uses_here m f formed block k s ready os.1 [] z d)) valued.1.0
 
     type : types x ≡ Int 64
     type = types_agree f x (Int 64) (ap (value_ty f) (sym same) ∙ st.0.gives ∙ ap Some (ap (λ op. given_ty op i.ty) is ∙ ty)) refl

@@ -34,7 +34,7 @@ NoPhis (i ∷ is) = (is_phi i.op ≡ false) × NoPhis is
 -- on a walk of whose last block so many instructions have run
 pub record IsEntered (m : Module) (f : Func) (walk : List ℕ) (before : ℕ) (s : State) : Type 0 where
   pub shaped : IsShaped m f walk before s
-  pub within : (a : Opd) → is_known (λ x. stands_on f x before walk) a ≡ true → has_kind (kind_of m a) ≡ true → NamesOne (length s.memory) (pointer_of (value_of s.env a))
+  pub within : (a : Opd) → is_known (length m.globals) (λ x. stands_on f x before walk) a ≡ true → has_kind (kind_of m a) ≡ true → NamesOne (length s.memory) (pointer_of (value_of s.env a))
   pub roots : RootsApart m (λ x. stands_on f x before walk) s.env
 
 -- a block of a formed module that a walk comes to: its phis, then the instructions before the window, the window, and what is behind it

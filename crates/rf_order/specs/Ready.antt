@@ -3,12 +3,12 @@
 -- Known are ids whose values are there, and the instructions of the block that have run on this way to the place. A state is ready where
 -- each known value has its type's shape, each address and sum that has run is what its operands make it, and roots of kinds that never
 -- meet name different objects. A step of an instruction that may run keeps this.
-use Rattle.std.specs.Prelude.{◌≡◌, refl, ℕ, ℤ, ◌<◌, ◌≤◌, ◌⊎◌, Bool, true, false, ◌||◌, cond, Option, None, Some, List, [], ◌∷◌, ◌++◌, length, map, ⊤}
+use Rattle.std.specs.Prelude.{◌≡◌, refl, ℕ, ℤ, ◌<◌, ◌≤◌, ◌⊎◌, Bool, true, false, ◌||◌, cond, nat_lt, Option, None, Some, List, [], ◌∷◌, ◌++◌, length, map, ⊤}
 use Rattle.std.specs.List.{All, Contains}
 use Rattle.ir_types.specs.declared.id.Id.{Id}
 use Rattle.ir_types.specs.declared.ty.Ty.{Ty}
 use Rattle.ir_types.specs.declared.opd.Opd.{Opd}
-use Rattle.ir_types.specs.declared.opd.Opd.TheVariants.{Val}
+use Rattle.ir_types.specs.declared.opd.Opd.TheVariants.{Val, Lit, Sym}
 use Rattle.ir_types.specs.declared.op.Op.{Op}
 use Rattle.ir_types.specs.declared.op.Op.TheVariants.{Bin, Gep}
 use Rattle.ir_types.specs.declared.inst.Inst.{Inst}
@@ -102,14 +102,16 @@ NamesOne objects (Some p) = p.0 < objects
 abbrev pub NameOthers : Pointer → Pointer → Type 0
 NameOthers p q = (o : ℕ) (z y : ℤ) → p ≡ Some (o, z) → q ≡ Some (o, y) → ⊥
 
-abbrev pub is_known : (Id → Bool) → Opd → Bool
-is_known values (Val x) = values x
-is_known values _ = true
+-- a value that is there, or a global of so many
+abbrev pub is_known : ℕ → (Id → Bool) → Opd → Bool
+is_known globals values (Val x) = values x
+is_known globals values (Lit l) = true
+is_known globals values (Sym g) = nat_lt g globals
 
 -- roots of kinds that never meet
 abbrev pub RootsApart : Module → (Id → Bool) → Env → Type 0
 RootsApart m values env =
-    (a b : Opd) → is_known values a ≡ true → is_known values b ≡ true → same_root a b ≡ false → never_meet (kind_of m a) (kind_of m b) ≡ true →
+    (a b : Opd) → is_known (length m.globals) values a ≡ true → is_known (length m.globals) values b ≡ true → same_root a b ≡ false → never_meet (kind_of m a) (kind_of m b) ≡ true →
     NameOthers (pointer_of (value_of env a)) (pointer_of (value_of env b))
 
 pub record IsReady (m : Module) (f : Func) (block : List Inst) (k : Known) (s : State) : Type 0 where
@@ -120,7 +122,7 @@ pub record IsReady (m : Module) (f : Func) (block : List Inst) (k : Known) (s : 
   pub ran : (i : Inst) → IsIn i k.done → IsStatement m f block i × ((x : Id) → uses x i.opds ≡ true → k.values x ≡ true)
   pub own : (i : Inst) → IsIn i k.done → k.values i.id ≡ true
   pub computed : (i : Inst) → IsIn i k.done → IsComputed (types_of f) s.env i
-  pub within : (a : Opd) → is_known k.values a ≡ true → has_kind (kind_of m a) ≡ true → NamesOne (length s.memory) (pointer_of (value_of s.env a))
+  pub within : (a : Opd) → is_known (length m.globals) k.values a ≡ true → has_kind (kind_of m a) ≡ true → NamesOne (length s.memory) (pointer_of (value_of s.env a))
   pub roots : RootsApart m k.values s.env
 
 -- a step keeps it, over all calls that keep shapes
