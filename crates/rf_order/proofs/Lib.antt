@@ -12,3 +12,4 @@ pub mod Sums
 pub mod Apart
 pub mod Refined
 pub mod Blocks
+pub mod Starts

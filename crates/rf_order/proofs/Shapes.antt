@@ -220,7 +220,7 @@ alloca_gives (Alloca elem align) (Int w) types vs m a h e = absurd cc
 alloca_gives (Alloca elem align) (Row n w) types vs m a h e = absurd cc
 alloca_gives op t types vs m a h e = absurd (true_false (sym h))
 
-never_kinds : (a b : Kind) → never_meet a b ≡ true → (has_kind a ≡ true) × (has_kind b ≡ true)
+pub never_kinds : (a b : Kind) → never_meet a b ≡ true → (has_kind a ≡ true) × (has_kind b ≡ true)
 never_kinds Allocated Allocated h = (refl, refl)
 never_kinds Allocated Global h = (refl, refl)
 never_kinds Allocated Alone h = (refl, refl)

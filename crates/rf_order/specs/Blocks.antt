@@ -11,9 +11,12 @@ use Rattle.ir_types.specs.declared.module.Module.{Module}
 use Rattle.ir_types.specs.Walks.{IsWalk, EndsAt}
 use Rattle.ir_types.specs.Available.{graph_of, stands_on}
 use Rattle.ir_types.specs.Formed.{IsFormed}
+use Rattle.ir_model.specs.declared.value.Value.{Value}
 use Rattle.ir_model.specs.Values.{pointer_of, value_of}
+use Rattle.ir_model.specs.Memory.{Memory}
+use Rattle.ir_model.specs.Fits.{Fits}
 use Rattle.ir_model.specs.Step.{State, Reached, Calls}
-use Rattle.ir_model.specs.Run.{is_phi, run_insts, types_of}
+use Rattle.ir_model.specs.Run.{is_phi, run_insts, types_of, start_env, noalias_holds, functions_of}
 use Rattle.ir_model.specs.Shapes.{IsShaped, CallsKeepShapes}
 use Rattle.vx_view.specs.Conflicts.{kind_of}
 use Rattle.vx_serial.specs.Window.{order_in, joined}
@@ -56,3 +59,9 @@ BlocksRefine =
     (bundles : List (List Id)) → AreBundles insts bundles → (groups : List (List Inst)) → order_in m b.insts insts bundles ≡ Some groups →
     (calls : Calls) → CallsKeepShapes m calls → CallsKeepObjects calls → (r : Reached) → IsEntered m f walk (length phis) r.state →
     Instead (run_insts (types_of f) calls (before ++ joined groups ++ last ∷ after) r) (run_insts (types_of f) calls (before ++ insts ++ last ∷ after) r)
+
+-- the start of a function on arguments that fit, where `noalias` holds: no block has run, and the first one has no phi
+abbrev pub StartsAreEntered : Type 0
+StartsAreEntered =
+    (m : Module) → IsFormed m → (func : ℕ) (f : Func) → slice_get (functions_of m.items) func ≡ Some f → (args : List Value) (memory : Memory) → Fits m f args memory →
+    noalias_holds (length m.globals) [] f.params args ≡ true → IsEntered m f (0 ∷ []) 0 (record { env = start_env f.params args; memory = memory })

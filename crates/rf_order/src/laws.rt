@@ -3,7 +3,7 @@
 //! Each law is the contract of a function that does nothing and that no program calls; a caller that calls it has the law.
 
 ghost use Rattle.rf_order.specs.Swaps.{EffectsSwap};
-ghost use Rattle.rf_order.specs.Blocks.{BlocksRefine};
+ghost use Rattle.rf_order.specs.Blocks.{BlocksRefine, StartsAreEntered};
 ghost use Rattle.rf_order.specs.Ready.{AccessesKeepApart, NeighboursSwap, RowsRefine, StepsKeepReady, WindowsRefine};
 ghost use Rattle.rf_order.specs.Steps.{StepsSwap};
 ghost use Rattle.rf_order.specs.Windows.{OrdersReorder};
@@ -55,4 +55,9 @@ pub fn windows_refine()
 /// their own order.
 pub fn blocks_refine()
     ensures { BlocksRefine }
+{}
+
+/// On arguments that fit, where `noalias` holds, the first block of a function of a formed module is entered with roots that stand apart.
+pub fn starts_are_entered()
+    ensures { StartsAreEntered }
 {}
