@@ -141,7 +141,7 @@ apart_after : (xs ys : List Id) (x : Id) → Once (xs ++ ys) → among xs x ≡ 
 apart_after xs ys x once h = not_true (among ys x) (λ k. true_false (sym h ∙ once_apart xs ys x once k))
 
 -- an instruction's id is no parameter's, and stands where the instruction does
-of_items : (items : List Item) (kf : ℕ) (f : Func) (at : ℕ) (b : Block) (k : ℕ) (i : Inst) (func : ℕ) → slice_get items kf ≡ Some (FuncItem f) → slice_get f.blocks at ≡ Some b → slice_get b.insts k ≡ Some i → Once (ids_of_items items) →
+pub of_items : (items : List Item) (kf : ℕ) (f : Func) (at : ℕ) (b : Block) (k : ℕ) (i : Inst) (func : ℕ) → slice_get items kf ≡ Some (FuncItem f) → slice_get f.blocks at ≡ Some b → slice_get b.insts k ≡ Some i → Once (ids_of_items items) →
     (param_of i.id (funcs_of items) ≡ None) × FoundIs (standing_of i.id func (funcs_of items)) i
 of_items [] kf f at b k i func e found here once = absurd cc
 of_items (Kept text ∷ items) zero f at b k i func e found here once = absurd cc
@@ -205,7 +205,7 @@ other_block (z ∷ bs) (suc at) (suc a) b c x e d ne h once = other_block bs at 
 
 -- ---- a block
 
-get_middle : (front is : List Inst) (i : Inst) → slice_get (front ++ i ∷ is) (length front) ≡ Some i
+pub get_middle : (front is : List Inst) (i : Inst) → slice_get (front ++ i ∷ is) (length front) ≡ Some i
 get_middle [] is i = refl
 get_middle (j ∷ front) is i = get_middle front is i
 
@@ -226,7 +226,7 @@ use_slot x (Val v ∷ os) h = by_first (or_case (same_id v x) (uses x os) h) (λ
 use_slot x (Lit l ∷ os) h = let r = use_slot x os h in (suc r.0, r.1)
 use_slot x (Sym g ∷ os) h = let r = use_slot x os h in (suc r.0, r.1)
 
-defines_append : (x : Id) (xs ys : List Inst) → defines x (xs ++ ys) ≡ (defines x xs || defines x ys)
+pub defines_append : (x : Id) (xs ys : List Inst) → defines x (xs ++ ys) ≡ (defines x xs || defines x ys)
 defines_append x [] ys = refl
 defines_append x (i ∷ xs) ys = ap (λ b. same_id i.id x || b) (defines_append x xs ys) ∙ or_assoc (same_id i.id x) (defines x xs) (defines x ys) where
   or_assoc : (a b c : Bool) → (a || (b || c)) ≡ ((a || b) || c)
@@ -238,13 +238,13 @@ take_none x [] = refl
 take_none x (i ∷ is) = refl
 
 module _ (m : Module) (f : Func) (walk : List ℕ) (at : ℕ) (b : Block) (phis before insts : List Inst) (last : Inst) (after : List Inst) (cut : IsCut m f walk at b phis before insts last after) where
-  item : (k : ℕ) × (slice_get m.items k ≡ Some (FuncItem f))
+  pub item : (k : ℕ) × (slice_get m.items k ≡ Some (FuncItem f))
   item = contained_item m.items f cut.func
 
-  once_all : Once (ids_of_items m.items)
+  pub once_all : Once (ids_of_items m.items)
   once_all = once_of_pairs (ids_of_items m.items) cut.formed.once
 
-  once : Once (item_ids (FuncItem f))
+  pub once : Once (item_ids (FuncItem f))
   once = func_once m.items item.0 f item.1 once_all
 
   once_blocks : Once (block_ids f.blocks)
@@ -253,7 +253,7 @@ module _ (m : Module) (f : Func) (walk : List ℕ) (at : ℕ) (b : Block) (phis 
   once_here : Once (Ids b.insts)
   once_here = block_once f.blocks at b cut.there once_blocks
 
-  func : IsFormedFunc m f
+  pub func : IsFormedFunc m f
   func = All-contains (IsFormedItem m) m.items (FuncItem f) cut.formed.items cut.func
 
   available : IsAvailableFunc f
@@ -265,15 +265,15 @@ module _ (m : Module) (f : Func) (walk : List ℕ) (at : ℕ) (b : Block) (phis 
   -- ---- what stands where
 
   -- an instruction of the block before a place, with an id
-  record Earlier (x : Id) (low high : ℕ) : Type 0 where
-    place : ℕ
-    inst : Inst
-    from : low ≤ place
-    to : place < high
-    here : slice_get b.insts place ≡ Some inst
-    is : same_id inst.id x ≡ true
+  pub record Earlier (x : Id) (low high : ℕ) : Type 0 where
+    pub place : ℕ
+    pub inst : Inst
+    pub from : low ≤ place
+    pub to : place < high
+    pub here : slice_get b.insts place ≡ Some inst
+    pub is : same_id inst.id x ≡ true
 
-  back : (x : Id) (w : List ℕ) → EndsAt w at → (low j : ℕ) → low + j ≤ length b.insts → stands_on f x (low + j) w ≡ true → (stands_on f x low w ≡ true) ⊎ Earlier x low (low + j)
+  pub back : (x : Id) (w : List ℕ) → EndsAt w at → (low j : ℕ) → low + j ≤ length b.insts → stands_on f x (low + j) w ≡ true → (stands_on f x low w ≡ true) ⊎ Earlier x low (low + j)
   back x w ends low zero room h = inl (ap (λ n. stands_on f x n w) (plain low) ∙ h) where
     plain : (n : ℕ) → n ≡ n + 0
     plain n = omega arith
@@ -375,7 +375,7 @@ get_defines [] q y z e h = absurd cc
 get_defines (j ∷ ys) zero y z e h = let same : j ≡ y = cc in or_first (same_id j.id z) (defines z ys) (ap (λ (j : Inst). same_id j.id z) same ∙ h)
 get_defines (j ∷ ys) (suc q) y z e h = or_second (same_id j.id z) (defines z ys) (get_defines ys q y z e h)
 
-behind_defines : (xs ys : List Inst) (q : ℕ) (y : Inst) (z : Id) → slice_get (xs ++ ys) q ≡ Some y → length xs ≤ q → same_id y.id z ≡ true → defines z ys ≡ true
+pub behind_defines : (xs ys : List Inst) (q : ℕ) (y : Inst) (z : Id) → slice_get (xs ++ ys) q ≡ Some y → length xs ≤ q → same_id y.id z ≡ true → defines z ys ≡ true
 behind_defines [] ys q y z e less h = get_defines ys q y z e h
 behind_defines (x ∷ xs) ys zero y z e less h = absurd (omega arith)
 behind_defines (x ∷ xs) ys (suc q) y z e less h = behind_defines xs ys q y z e (omega arith) h
@@ -451,7 +451,7 @@ module _ (m : Module) (f : Func) (walk : List ℕ) (at : ℕ) (b : Block) (phis 
   abbrev Start : Known
   Start = entry m f walk at b phis before insts last after cut
 
-  on_body : (n : ℕ) (i : Inst) → slice_get Rest n ≡ Some i → slice_get b.insts (length phis + n) ≡ Some i
+  pub on_body : (n : ℕ) (i : Inst) → slice_get Rest n ≡ Some i → slice_get b.insts (length phis + n) ≡ Some i
   on_body n i e = ap (λ is. slice_get is (length phis + n)) cut.parts ∙ get_behind phis Rest n i e
 
   once_in : Once (Ids b.insts)

@@ -13,3 +13,4 @@ pub mod Apart
 pub mod Refined
 pub mod Blocks
 pub mod Starts
+pub mod Exits

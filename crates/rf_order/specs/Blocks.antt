@@ -15,8 +15,8 @@ use Rattle.ir_model.specs.declared.value.Value.{Value}
 use Rattle.ir_model.specs.Values.{pointer_of, value_of}
 use Rattle.ir_model.specs.Memory.{Memory}
 use Rattle.ir_model.specs.Fits.{Fits}
-use Rattle.ir_model.specs.Step.{State, Reached, Calls}
-use Rattle.ir_model.specs.Run.{is_phi, run_insts, types_of, start_env, noalias_holds, functions_of}
+use Rattle.ir_model.specs.Step.{State, On, Reached, Calls}
+use Rattle.ir_model.specs.Run.{To, is_phi, run_insts, types_of, start_env, noalias_holds, functions_of}
 use Rattle.ir_model.specs.Shapes.{IsShaped, CallsKeepShapes}
 use Rattle.vx_view.specs.Conflicts.{kind_of}
 use Rattle.vx_serial.specs.Window.{order_in, joined}
@@ -65,3 +65,10 @@ abbrev pub StartsAreEntered : Type 0
 StartsAreEntered =
     (m : Module) → IsFormed m → (func : ℕ) (f : Func) → slice_get (functions_of m.items) func ≡ Some f → (args : List Value) (memory : Memory) → Fits m f args memory →
     noalias_holds (length m.globals) [] f.params args ≡ true → IsEntered m f (0 ∷ []) 0 (record { env = start_env f.params args; memory = memory })
+
+-- where a block goes on to another, that one is entered, before its phis
+abbrev pub ExitsAreEntered : Type 0
+ExitsAreEntered =
+    (m : Module) (f : Func) (walk : List ℕ) (at : ℕ) (b : Block) (phis insts : List Inst) (last : Inst) → IsCut m f walk at b phis [] insts last [] →
+    (calls : Calls) → CallsKeepShapes m calls → (r q : Reached) (to : ℕ) → IsEntered m f walk (length phis) r.state →
+    run_insts (types_of f) calls (insts ++ last ∷ []) r ≡ On (To to q) → IsEntered m f (walk ++ to ∷ []) 0 q.state

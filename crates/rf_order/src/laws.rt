@@ -3,7 +3,7 @@
 //! Each law is the contract of a function that does nothing and that no program calls; a caller that calls it has the law.
 
 ghost use Rattle.rf_order.specs.Swaps.{EffectsSwap};
-ghost use Rattle.rf_order.specs.Blocks.{BlocksRefine, StartsAreEntered};
+ghost use Rattle.rf_order.specs.Blocks.{BlocksRefine, ExitsAreEntered, StartsAreEntered};
 ghost use Rattle.rf_order.specs.Ready.{AccessesKeepApart, NeighboursSwap, RowsRefine, StepsKeepReady, WindowsRefine};
 ghost use Rattle.rf_order.specs.Steps.{StepsSwap};
 ghost use Rattle.rf_order.specs.Windows.{OrdersReorder};
@@ -60,4 +60,9 @@ pub fn blocks_refine()
 /// On arguments that fit, where `noalias` holds, the first block of a function of a formed module is entered with roots that stand apart.
 pub fn starts_are_entered()
     ensures { StartsAreEntered }
+{}
+
+/// Where a block that is entered goes on to another, that one is entered, before its phis.
+pub fn exits_are_entered()
+    ensures { ExitsAreEntered }
 {}
