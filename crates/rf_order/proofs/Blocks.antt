@@ -32,7 +32,7 @@ use Rattle.vx_serial.specs.Window.{order_in, joined}
 use Rattle.rf_order.specs.Rows.{Instead}
 use Rattle.rf_order.specs.Swaps.{CallsKeepObjects}
 use Rattle.rf_order.specs.Steps.{uses}
-use Rattle.rf_order.specs.Windows.{AreBundles}
+use Rattle.rf_order.specs.Windows.{AreOnce, ids_of as ids_of_insts, AreBundles}
 use Rattle.rf_order.specs.Ready.{Known, next, IsStatement, MayRun, MayRunAll, is_known, IsReady}
 use Rattle.rf_order.specs.Blocks.{ArePhis, NoPhis, IsEntered, IsCut, BlocksRefine}
 use Rattle.rf_order.proofs.Shapes.{step_ready}
@@ -563,6 +563,32 @@ module _ (m : Module) (f : Func) (walk : List ℕ) (at : ℕ) (b : Block) (phis 
       no_ends_right phis (before ++ insts)
       (no_ends_before (phis ++ (before ++ insts)) last after
       (subst EndsOnce (cut.parts ∙ sym (append_assoc phis (before ++ insts) (last ∷ after))) ((func m f walk at b phis before insts last after cut).blocks at b cut.there).ends))
+
+  once_right_ids : (xs ys : List Inst) → Once (Ids (xs ++ ys)) → Once (Ids ys)
+  once_right_ids [] ys h = h
+  once_right_ids (x ∷ xs) ys h = once_right_ids xs ys h.1
+
+  once_left_ids : (xs ys : List Inst) → Once (Ids (xs ++ ys)) → AreOnce (Ids xs)
+  once_left_ids [] ys h = tt
+  once_left_ids (x ∷ xs) ys h = (absent xs (not_true (among (Ids xs) x.id) (λ k. true_false (sym (wider xs k) ∙ h.0))), once_left_ids xs ys h.1) where
+    wider : (xs : List Inst) → among (Ids xs) x.id ≡ true → among (Ids (xs ++ ys)) x.id ≡ true
+    wider [] k = absurd cc
+    wider (y ∷ xs) k = by_first (or_case (same_id y.id x.id) (among (Ids xs) x.id) k) (λ k. wider xs k) where
+      by_first : (same_id y.id x.id ≡ true) ⊎ (among (Ids xs) x.id ≡ true) → (among (Ids xs) x.id ≡ true → among (Ids (xs ++ ys)) x.id ≡ true) → among (Ids (y ∷ xs ++ ys)) x.id ≡ true
+      by_first (inl e) more = or_first (same_id y.id x.id) (among (Ids (xs ++ ys)) x.id) e
+      by_first (inr k) more = or_second (same_id y.id x.id) (among (Ids (xs ++ ys)) x.id) (more k)
+
+    absent : (xs : List Inst) → among (Ids xs) x.id ≡ false → list_any (same_id x.id) (Ids xs) ≡ false
+    absent [] h = refl
+    absent (y ∷ xs) h =
+        neither (same_id x.id y.id) (list_any (same_id x.id) (Ids xs)) (swapped x.id y.id ∙ no_left (same_id y.id x.id) (among (Ids xs) x.id) h) (absent xs (no_right (same_id y.id x.id) (among (Ids xs) x.id) h))
+
+  pub window_once : AreOnce (ids_of_insts insts)
+  window_once =
+      once_left_ids insts (last ∷ after)
+      (once_right_ids before (insts ++ last ∷ after)
+      (once_right_ids phis (before ++ (insts ++ last ∷ after))
+      (subst (λ is. Once (Ids is)) (cut.parts ∙ ap (λ l. phis ++ l) (append_assoc before insts (last ∷ after))) once_in)))
 
   -- instructions before the window
   prefix : (bundles : List (List Id)) → AreBundles insts bundles → (groups : List (List Inst)) → order_in m b.insts insts bundles ≡ Some groups → (calls : Calls) → CallsKeepShapes m calls → CallsKeepObjects calls →

@@ -14,3 +14,4 @@ pub mod Refined
 pub mod Blocks
 pub mod Starts
 pub mod Exits
+pub mod Phis

@@ -12,11 +12,11 @@ use Rattle.ir_types.specs.Walks.{IsWalk, EndsAt}
 use Rattle.ir_types.specs.Available.{graph_of, stands_on}
 use Rattle.ir_types.specs.Formed.{IsFormed}
 use Rattle.ir_model.specs.declared.value.Value.{Value}
-use Rattle.ir_model.specs.Values.{pointer_of, value_of}
+use Rattle.ir_model.specs.Values.{Env, pointer_of, value_of}
 use Rattle.ir_model.specs.Memory.{Memory}
 use Rattle.ir_model.specs.Fits.{Fits}
-use Rattle.ir_model.specs.Step.{State, On, Reached, Calls}
-use Rattle.ir_model.specs.Run.{To, is_phi, run_insts, types_of, start_env, noalias_holds, functions_of}
+use Rattle.ir_model.specs.Step.{State, Went, On, then_go, Reached, Calls}
+use Rattle.ir_model.specs.Run.{To, is_phi, arm_of, with_phi, reached_if, run_block, run_insts, types_of, start_env, noalias_holds, functions_of}
 use Rattle.ir_model.specs.Shapes.{IsShaped, CallsKeepShapes}
 use Rattle.vx_view.specs.Conflicts.{kind_of}
 use Rattle.vx_serial.specs.Window.{order_in, joined}
@@ -72,3 +72,21 @@ ExitsAreEntered =
     (m : Module) (f : Func) (walk : List ℕ) (at : ℕ) (b : Block) (phis insts : List Inst) (last : Inst) → IsCut m f walk at b phis [] insts last [] →
     (calls : Calls) → CallsKeepShapes m calls → (r q : Reached) (to : ℕ) → IsEntered m f walk (length phis) r.state →
     run_insts (types_of f) calls (insts ++ last ∷ []) r ≡ On (To to q) → IsEntered m f (walk ++ to ∷ []) 0 q.state
+
+-- the phis of a block that is entered from a block, in an environment on that edge
+abbrev pub run_phis : Option ℕ → Env → List Inst → Reached → Went Reached
+run_phis from edge [] r = On r
+run_phis from edge (i ∷ is) r = then_go (reached_if r.left (with_phi edge i.id r.state (arm_of from i.op i.opds))) (run_phis from edge is)
+
+-- the block with the window in the order of groups
+abbrev pub with_groups : Block → List Inst → List Inst → List (List Inst) → Inst → List Inst → Block
+with_groups b phis before groups last after = record { name = b.name; insts = phis ++ (before ++ joined groups ++ last ∷ after) }
+
+-- whole blocks, from any block before: where what the phis come to is entered
+abbrev pub WholeBlocksRefine : Type 0
+WholeBlocksRefine =
+    (m : Module) (f : Func) (walk : List ℕ) (at : ℕ) (b : Block) (phis before insts : List Inst) (last : Inst) (after : List Inst) → IsCut m f walk at b phis before insts last after →
+    (bundles : List (List Id)) → AreBundles insts bundles → (groups : List (List Inst)) → order_in m b.insts insts bundles ≡ Some groups →
+    (calls : Calls) → CallsKeepShapes m calls → CallsKeepObjects calls → (from : Option ℕ) (r : Reached) →
+    ((q : Reached) → run_phis from r.state.env phis r ≡ On q → IsEntered m f walk (length phis) q.state) →
+    Instead (run_block (types_of f) calls from r (Some (with_groups b phis before groups last after))) (run_block (types_of f) calls from r (Some b))

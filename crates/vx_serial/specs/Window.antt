@@ -93,19 +93,19 @@ joined (g ∷ gs) = g ++ joined gs
 
 -- ---- worked examples: two loads, a store through the first pointer between them, and a store of the second load
 
-abbrev id : ℕ → Id
+abbrev pub id : ℕ → Id
 id k = record { region = 0; k = k }
 
-abbrev load : ℕ → ℕ → Inst
+abbrev pub load : ℕ → ℕ → Inst
 load k p = line k (Int 32) (Load 4) (value p ∷ [])
 
-abbrev store : ℕ → ℕ → ℕ → Inst
+abbrev pub store : ℕ → ℕ → ℕ → Inst
 store k v p = line k (Int 32) (Store 4) (value v ∷ value p ∷ [])
 
 abbrev nothing : Module
 nothing = record { items = []; globals = []; big_endian_line = None }
 
-abbrev block : List Inst
+abbrev pub block : List Inst
 block = load 2 0 ∷ load 3 1 ∷ store 4 3 0 ∷ load 5 0 ∷ store 6 5 1 ∷ []
 
 -- from the first member to the last instruction looked at
