@@ -256,7 +256,7 @@ module _ (m : Module) (f : Func) (walk : List ℕ) (at : ℕ) (b : Block) (phis 
   pub func : IsFormedFunc m f
   func = All-contains (IsFormedItem m) m.items (FuncItem f) cut.formed.items cut.func
 
-  available : IsAvailableFunc f
+  pub available : IsAvailableFunc f
   available = cut.formed.available item.0 (FuncItem f) item.1
 
   abbrev Body : List Inst

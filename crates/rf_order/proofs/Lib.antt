@@ -15,3 +15,4 @@ pub mod Blocks
 pub mod Starts
 pub mod Exits
 pub mod Phis
+pub mod Entered

@@ -1,5 +1,5 @@
 -- A block that is entered: its phis have run, what stands has its type's shape, and roots of kinds that never meet name different objects.
-use Rattle.std.specs.Prelude.{◌≡◌, refl, ℕ, ◌<◌, true, false, Option, Some, List, [], ◌∷◌, ◌++◌, length, slice_get, ⊤}
+use Rattle.std.specs.Prelude.{◌≡◌, refl, ℕ, ◌<◌, true, false, Option, None, Some, List, [], ◌∷◌, ◌++◌, length, slice_get, ⊤}
 use Rattle.std.specs.List.{Contains}
 use Rattle.ir_types.specs.declared.id.Id.{Id}
 use Rattle.ir_types.specs.declared.opd.Opd.{Opd}
@@ -8,8 +8,8 @@ use Rattle.ir_types.specs.declared.func.Block.{Block}
 use Rattle.ir_types.specs.declared.func.Func.{Func}
 use Rattle.ir_types.specs.declared.module.Item.TheVariants.{Func as FuncItem}
 use Rattle.ir_types.specs.declared.module.Module.{Module}
-use Rattle.ir_types.specs.Walks.{IsWalk, EndsAt}
-use Rattle.ir_types.specs.Available.{graph_of, stands_on}
+use Rattle.ir_types.specs.Walks.{HasEdge, IsWalk, EndsAt}
+use Rattle.ir_types.specs.Available.{graph_of, insts_at, stands_on}
 use Rattle.ir_types.specs.Formed.{IsFormed}
 use Rattle.ir_model.specs.declared.value.Value.{Value}
 use Rattle.ir_model.specs.Values.{Env, pointer_of, value_of}
@@ -90,3 +90,16 @@ WholeBlocksRefine =
     (calls : Calls) → CallsKeepShapes m calls → CallsKeepObjects calls → (from : Option ℕ) (r : Reached) →
     ((q : Reached) → run_phis from r.state.env phis r ≡ On q → IsEntered m f walk (length phis) q.state) →
     Instead (run_block (types_of f) calls from r (Some (with_groups b phis before groups last after))) (run_block (types_of f) calls from r (Some b))
+
+-- where a block is entered from: at the start it is the first, else a walk leads to a block with an edge to it, at whose end all that
+-- stands is of its shape
+abbrev pub CameFrom : Module → Func → List ℕ → ℕ → Option ℕ → State → Type 0
+CameFrom m f walk at None s = at ≡ 0
+CameFrom m f walk at (Some from) s =
+    (path : List ℕ) × IsWalk (graph_of f) path × EndsAt path from × HasEdge (graph_of f) from at × IsShaped m f path (length (insts_at f from)) s
+
+-- where a block is entered, what its phis come to is entered behind them
+abbrev pub PhisAreEntered : Type 0
+PhisAreEntered =
+    (m : Module) (f : Func) (walk : List ℕ) (at : ℕ) (b : Block) (phis before insts : List Inst) (last : Inst) (after : List Inst) → IsCut m f walk at b phis before insts last after →
+    (from : Option ℕ) (r q : Reached) → CameFrom m f walk at from r.state → IsEntered m f walk 0 r.state → run_phis from r.state.env phis r ≡ On q → IsEntered m f walk (length phis) q.state

@@ -3,7 +3,7 @@
 //! Each law is the contract of a function that does nothing and that no program calls; a caller that calls it has the law.
 
 ghost use Rattle.rf_order.specs.Swaps.{EffectsSwap};
-ghost use Rattle.rf_order.specs.Blocks.{BlocksRefine, ExitsAreEntered, StartsAreEntered, WholeBlocksRefine};
+ghost use Rattle.rf_order.specs.Blocks.{BlocksRefine, ExitsAreEntered, PhisAreEntered, StartsAreEntered, WholeBlocksRefine};
 ghost use Rattle.rf_order.specs.Ready.{AccessesKeepApart, NeighboursSwap, RowsRefine, StepsKeepReady, WindowsRefine};
 ghost use Rattle.rf_order.specs.Steps.{StepsSwap};
 ghost use Rattle.rf_order.specs.Windows.{OrdersReorder};
@@ -70,4 +70,9 @@ pub fn exits_are_entered()
 /// A whole block, its phis too, with its window in the order that it has, comes to the same, where it was defined.
 pub fn whole_blocks_refine()
     ensures { WholeBlocksRefine }
+{}
+
+/// Where a block is entered, what its phis come to is entered behind them.
+pub fn phis_are_entered()
+    ensures { PhisAreEntered }
 {}
