@@ -1,0 +1,227 @@
+-- Lists of numbers: taken apart, without repetitions, and one within another.
+use Rattle.std.proofs.Common.{◌≡◌, refl, sym, ap, ◌∙◌, subst, ℕ, zero, suc, ◌+◌, ◌<◌, ◌≤◌, ◌==◌, ◌⊎◌, inl, inr, Bool, true, false, not, ◌&&◌, ◌||◌, Option, None, Some, List, [], ◌∷◌, ◌++◌, length, length-append, arith}
+use Rattle.std.proofs.lemmas.Bool.Decides.{nat_tests}
+use Rattle.vx_order.specs.Groups.{has}
+use Rattle.vx_order.specs.Walks.{Ascends}
+use Rattle.vx_order.proofs.Placing.{head_or_more, at_head, in_more, ascends_has}
+use Rattle.rf_order.specs.Rows.{NoneBefore, Reordered}
+
+pub true_false : true ≡ false → ⊥
+true_false e = cc
+
+pub same_number : (x y : ℕ) → (x == y) ≡ true → x ≡ y
+same_number x y e = grind (arith, nat_tests)
+
+pub number_itself : (x : ℕ) → (x == x) ≡ true
+number_itself x = grind (arith, nat_tests)
+
+pub turned : (x y : ℕ) → (x == y) ≡ (y == x)
+turned x y = grind (arith, nat_tests)
+
+-- ---- parts
+
+pub has_append : (xs ys : List ℕ) (x : ℕ) → has (xs ++ ys) x ≡ (has xs x || has ys x)
+has_append [] ys x = refl
+has_append (z ∷ xs) ys x = ap (λ b. (z == x) || b) (has_append xs ys x) ∙ or_assoc (z == x) (has xs x) (has ys x) where
+  or_assoc : (a b c : Bool) → (a || (b || c)) ≡ ((a || b) || c)
+  or_assoc true b c = refl
+  or_assoc false b c = refl
+
+pub or_cases : (a b : Bool) → (a || b) ≡ true → (a ≡ true) ⊎ (b ≡ true)
+or_cases true b h = inl refl
+or_cases false b h = inr h
+
+pub or_first : (a b : Bool) → a ≡ true → (a || b) ≡ true
+or_first true b h = refl
+or_first false b h = absurd cc
+
+pub or_second : (a b : Bool) → b ≡ true → (a || b) ≡ true
+or_second true b h = refl
+or_second false b h = h
+
+pub neither : (a b : Bool) → a ≡ false → b ≡ false → (a || b) ≡ false
+neither false b h k = k
+neither true b h k = absurd cc
+
+pub by_bool : (P : Bool → Type 0) → (b : Bool) → P true → P false → P b
+by_bool P true h k = h
+by_bool P false h k = k
+
+-- what is not false is true
+pub not_true : (b : Bool) → (b ≡ true → ⊥) → b ≡ false
+not_true true h = absurd (h refl)
+not_true false h = refl
+
+pub has_front : (xs ys : List ℕ) (x : ℕ) → has xs x ≡ true → has (xs ++ ys) x ≡ true
+has_front xs ys x h = has_append xs ys x ∙ or_first (has xs x) (has ys x) h
+
+pub has_back : (xs ys : List ℕ) (x : ℕ) → has ys x ≡ true → has (xs ++ ys) x ≡ true
+has_back xs ys x h = has_append xs ys x ∙ or_second (has xs x) (has ys x) h
+
+pub has_part : (xs ys : List ℕ) (x : ℕ) → has (xs ++ ys) x ≡ true → (has xs x ≡ true) ⊎ (has ys x ≡ true)
+has_part xs ys x h = or_cases (has xs x) (has ys x) (sym (has_append xs ys x) ∙ h)
+
+pub has_none : (xs ys : List ℕ) (x : ℕ) → has xs x ≡ false → has ys x ≡ false → has (xs ++ ys) x ≡ false
+has_none xs ys x h k = has_append xs ys x ∙ neither (has xs x) (has ys x) h k
+
+-- a list taken apart at one of its items
+pub record Split (xs : List ℕ) (y : ℕ) : Type 0 where
+  pub front : List ℕ
+  pub rest : List ℕ
+  pub is : xs ≡ front ++ y ∷ rest
+
+pub split_at : (xs : List ℕ) (y : ℕ) → has xs y ≡ true → Split xs y
+split_at [] y h = absurd cc
+split_at (x ∷ xs) y h = by_first (head_or_more x y xs h) (λ more. split_at xs y more) where
+  by_first : (x ≡ y) ⊎ (has xs y ≡ true) → (has xs y ≡ true → Split xs y) → Split (x ∷ xs) y
+  by_first (inl e) more = record { front = []; rest = xs; is = ap (λ z. z ∷ xs) e }
+  by_first (inr h) more = let s = more h in record { front = x ∷ s.front; rest = s.rest; is = ap (λ zs. x ∷ zs) s.is }
+
+pub without : (f r : List ℕ) (y x : ℕ) → (y == x) ≡ false → has (f ++ y ∷ r) x ≡ has (f ++ r) x
+without [] r y x e = ap (λ b. b || has r x) e
+without (z ∷ f) r y x e = ap (λ b. (z == x) || b) (without f r y x e)
+
+pub has_middle : (f r : List ℕ) (y : ℕ) → has (f ++ y ∷ r) y ≡ true
+has_middle [] r y = or_first (y == y) (has r y) (number_itself y)
+has_middle (z ∷ f) r y = or_second (z == y) (has (f ++ y ∷ r) y) (has_middle f r y)
+
+-- ---- each once
+
+abbrev pub Distinct : List ℕ → Type 0
+Distinct [] = Unit {0}
+Distinct (x ∷ xs) = (has xs x ≡ false) × Distinct xs
+
+pub differ_of : (xs : List ℕ) (x y : ℕ) → has xs x ≡ true → has xs y ≡ false → (y == x) ≡ false
+differ_of xs x y h k = not_true (y == x) (λ e. true_false (sym h ∙ ap (has xs) (sym (same_number y x e)) ∙ k))
+
+pub distinct_out : (f r : List ℕ) (y : ℕ) → Distinct (f ++ y ∷ r) → (has (f ++ r) y ≡ false) × Distinct (f ++ r)
+distinct_out [] r y d = d
+distinct_out (z ∷ f) r y d =
+    let rest = distinct_out f r y d.1 in
+    let apart : (z == y) ≡ false = differ_of (f ++ y ∷ r) y z (has_middle f r y) d.0 in
+    (neither (z == y) (has (f ++ r) y) apart rest.0, (sym (without f r y z (turned y z ∙ apart)) ∙ d.0, rest.1))
+
+pub distinct_left : (xs ys : List ℕ) → Distinct (xs ++ ys) → Distinct xs
+distinct_left [] ys d = tt
+distinct_left (x ∷ xs) ys d = (not_true (has xs x) (λ h. true_false (sym (has_front xs ys x h) ∙ d.0)), distinct_left xs ys d.1)
+
+pub distinct_right : (xs ys : List ℕ) → Distinct (xs ++ ys) → Distinct ys
+distinct_right [] ys d = d
+distinct_right (x ∷ xs) ys d = distinct_right xs ys d.1
+
+pub distinct_apart : (xs ys : List ℕ) (x : ℕ) → Distinct (xs ++ ys) → has xs x ≡ true → has ys x ≡ false
+distinct_apart [] ys x d h = absurd cc
+distinct_apart (z ∷ xs) ys x d h = by_first (head_or_more z x xs h) (λ more. distinct_apart xs ys x d.1 more) where
+  by_first : (z ≡ x) ⊎ (has xs x ≡ true) → (has xs x ≡ true → has ys x ≡ false) → has ys x ≡ false
+  by_first (inl e) more = not_true (has ys x) (λ k. true_false (sym (has_back xs ys z (ap (has ys) e ∙ k)) ∙ d.0))
+  by_first (inr h) more = more h
+
+pub distinct_both : (xs ys : List ℕ) → Distinct xs → Distinct ys → ((x : ℕ) → has xs x ≡ true → has ys x ≡ false) → Distinct (xs ++ ys)
+distinct_both [] ys d e h = e
+distinct_both (x ∷ xs) ys d e h =
+    (has_none xs ys x d.0 (h x (or_first (x == x) (has xs x) (number_itself x))), distinct_both xs ys d.1 e (λ y k. h y (or_second (x == y) (has xs y) k)))
+
+-- ---- as many
+
+long_middle : (f r : List ℕ) (y : ℕ) → length (f ++ y ∷ r) ≡ suc (length (f ++ r))
+long_middle [] r y = refl
+long_middle (z ∷ f) r y = ap suc (long_middle f r y)
+
+-- a list that stands within another is not longer
+pub fits : (ws ns : List ℕ) → Distinct ws → ((x : ℕ) → has ws x ≡ true → has ns x ≡ true) → length ws ≤ length ns
+fits [] ns d h = omega arith
+fits (w ∷ ws) ns d h =
+    let s = split_at ns w (h w (or_first (w == w) (has ws w) (number_itself w))) in
+    let rest = fits ws (s.front ++ s.rest) d.1 (λ x k. sym (without s.front s.rest w x (differ_of ws x w k d.0)) ∙ ap (λ l. has l x) (sym s.is) ∙ h x (or_second (w == x) (has ws x) k)) in
+    let long : length ns ≡ suc (length (s.front ++ s.rest)) = ap length s.is ∙ long_middle s.front s.rest w in omega arith
+
+-- one as long has all items of the other
+pub fills : (ws ns : List ℕ) → Distinct ws → ((x : ℕ) → has ws x ≡ true → has ns x ≡ true) → length ns ≤ length ws → (x : ℕ) → has ns x ≡ true → has ws x ≡ true
+fills [] [] d h less x k = k
+fills [] (n ∷ ns) d h less x k = absurd (omega arith)
+fills (w ∷ ws) ns d h less x k =
+    let s = split_at ns w (h w (or_first (w == w) (has ws w) (number_itself w))) in
+    let long : length ns ≡ suc (length (s.front ++ s.rest)) = ap length s.is ∙ long_middle s.front s.rest w in
+    let inner : (y : ℕ) → has (s.front ++ s.rest) y ≡ true → has ws y ≡ true =
+        fills ws (s.front ++ s.rest) d.1 (λ x k. sym (without s.front s.rest w x (differ_of ws x w k d.0)) ∙ ap (λ l. has l x) (sym s.is) ∙ h x (or_second (w == x) (has ws x) k)) (omega arith) in
+    by_test s inner (w == x) refl
+  where
+    by_test : (s : Split ns w) → ((y : ℕ) → has (s.front ++ s.rest) y ≡ true → has ws y ≡ true) → (b : Bool) → (w == x) ≡ b → (b || has ws x) ≡ true
+    by_test s inner true e = refl
+    by_test s inner false e = inner x (sym (without s.front s.rest w x e) ∙ ap (λ l. has l x) (sym s.is) ∙ k)
+
+-- ---- ascending numbers
+
+pub ascends_from : (few low : ℕ) (xs : List ℕ) → few ≤ low → Ascends low xs → Ascends few xs
+ascends_from few low [] h a = tt
+ascends_from few low (x ∷ xs) h a = (let l = a.0 in omega arith, a.1)
+
+pub ascends_distinct : (low : ℕ) (xs : List ℕ) → Ascends low xs → Distinct xs
+ascends_distinct low [] a = tt
+ascends_distinct low (x ∷ xs) a = (not_true (has xs x) (λ h. let l = ascends_has (x + 1) xs x a.1 h in absurd (omega arith)), ascends_distinct (x + 1) xs a.1)
+
+ascends_out : (low : ℕ) (f r : List ℕ) (y : ℕ) → Ascends low (f ++ y ∷ r) → Ascends low (f ++ r)
+ascends_out low [] r y a = ascends_from low (y + 1) r (let l = a.0 in omega arith) a.1
+ascends_out low (z ∷ f) r y a = (a.0, ascends_out (z + 1) f r y a.1)
+
+ascends_below : (low : ℕ) (f r : List ℕ) (y x : ℕ) → Ascends low (f ++ y ∷ r) → has f x ≡ true → x < y
+ascends_below low [] r y x a h = absurd cc
+ascends_below low (z ∷ f) r y x a h = by_first (head_or_more z x f h) (λ more. ascends_below (z + 1) f r y x a.1 more) where
+  by_first : (z ≡ x) ⊎ (has f x ≡ true) → (has f x ≡ true → x < y) → x < y
+  by_first (inl e) more = let l = ascends_has (z + 1) (f ++ y ∷ r) y a.1 (has_middle f r y) in omega arith
+  by_first (inr h) more = more h
+
+-- ---- numbers in another order
+
+abbrev pub also : (ℕ → Bool) → ℕ → ℕ → Bool
+also done y x = (y == x) || done x
+
+-- each stands behind all before it in number that it depends on
+abbrev pub Topological : (ℕ → ℕ → Bool) → (ℕ → Bool) → List ℕ → Type 0
+Topological depends done [] = Unit {0}
+Topological depends done (y ∷ ys) = ((x : ℕ) → x < y → depends y x ≡ true → done x ≡ true) × Topological depends (also done y) ys
+
+pub topological_more : (depends : ℕ → ℕ → Bool) (few more : ℕ → Bool) (ys : List ℕ) → ((x : ℕ) → few x ≡ true → more x ≡ true) → Topological depends few ys → Topological depends more ys
+topological_more depends few more [] h t = tt
+topological_more depends few more (y ∷ ys) h t =
+    ((λ x less d. h x (t.0 x less d)), topological_more depends (also few y) (also more y) ys (λ x k. by_first x (or_cases (y == x) (few x) k)) t.1)
+  where
+    by_first : (x : ℕ) → ((y == x) ≡ true) ⊎ (few x ≡ true) → also more y x ≡ true
+    by_first x (inl e) = or_first (y == x) (more x) e
+    by_first x (inr e) = or_second (y == x) (more x) (h x e)
+
+none_before : (depends : ℕ → ℕ → Bool) (f : List ℕ) (y : ℕ) → ((x : ℕ) → has f x ≡ true → depends y x ≡ false) → NoneBefore depends f y
+none_before depends [] y h = tt
+none_before depends (x ∷ f) y h = (h x (or_first (x == x) (has f x) (number_itself x)), none_before depends f y (λ z k. h z (or_second (x == z) (has f z) k)))
+
+pub reordered : (depends : ℕ → ℕ → Bool) (flat old : List ℕ) (done : ℕ → Bool) (low : ℕ) → Ascends low old → Distinct flat → ((x : ℕ) → has old x ≡ has flat x) →
+    ((x : ℕ) → has old x ≡ true → done x ≡ false) → Topological depends done flat → Reordered depends old flat
+reordered depends [] [] done low a d same free t = refl
+reordered depends [] (x ∷ old) done low a d same free t = absurd (true_false (sym (or_first (x == x) (has old x) (number_itself x)) ∙ same x))
+reordered depends (y ∷ ys) old done low a d same free t =
+    (s.front, s.rest, s.is, none_before depends s.front y none,
+    reordered depends ys (s.front ++ s.rest) (also done y) low (ascends_out low s.front s.rest y up) d.1 same_rest free_rest t.1)
+  where
+    s : Split old y
+    s = split_at old y (same y ∙ or_first (y == y) (has ys y) (number_itself y))
+
+    up : Ascends low (s.front ++ y ∷ s.rest)
+    up = subst (Ascends low) s.is a
+
+    out : (has (s.front ++ s.rest) y ≡ false) × Distinct (s.front ++ s.rest)
+    out = distinct_out s.front s.rest y (ascends_distinct low (s.front ++ y ∷ s.rest) up)
+
+    in_old : (x : ℕ) → has (s.front ++ s.rest) x ≡ true → has old x ≡ true
+    in_old x h = ap (λ l. has l x) s.is ∙ without s.front s.rest y x (differ_of (s.front ++ s.rest) x y h out.0) ∙ h
+
+    none : (x : ℕ) → has s.front x ≡ true → depends y x ≡ false
+    none x h = not_true (depends y x) (λ e. true_false (sym (t.0 x (ascends_below low s.front s.rest y x up h) e) ∙ free x (in_old x (has_front s.front s.rest x h))))
+
+    same_rest : (x : ℕ) → has (s.front ++ s.rest) x ≡ has ys x
+    same_rest x = by_test (y == x) refl where
+      by_test : (b : Bool) → (y == x) ≡ b → has (s.front ++ s.rest) x ≡ has ys x
+      by_test true e = ap (has (s.front ++ s.rest)) (sym (same_number y x e)) ∙ out.0 ∙ sym d.0 ∙ ap (has ys) (same_number y x e)
+      by_test false e = sym (without s.front s.rest y x e) ∙ ap (λ l. has l x) (sym s.is) ∙ same x ∙ ap (λ b. b || has ys x) e
+
+    free_rest : (x : ℕ) → has (s.front ++ s.rest) x ≡ true → also done y x ≡ false
+    free_rest x h = neither (y == x) (done x) (differ_of (s.front ++ s.rest) x y h out.0) (free x (in_old x h))
