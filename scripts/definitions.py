@@ -127,6 +127,20 @@ ROWS = [
     ("a change that fits", "Ids, operands, types and places are such that it may be made.", "vx_view/specs/Changes.antt", "Fits", None),
     ("the inverse of a change", "What brings back the module in which it was made.", "vx_view/specs/Changes.antt", "inverse", None),
     ("exact use lists", "For each value the slots that hold it, each once.", "vx_view/specs/Uses.antt", "IsExact", None),
+    ("what a view holds", "Its own module and use lists, the reads since notes were opened, and what stood at the save of an open mark.", "vx_view/specs/Views.antt", "State", None),
+    ("a view stands for a module", "With notes open and no mark, for every formed module that agrees with the reads; else for its own alone.", "vx_view/specs/Views.antt", "StandsFor", None),
+    ("what calls over a view do with it", "Module, lists and mark stay, it stands for no more than before, and only questions of a kind were added.", "vx_view/specs/Views.antt", "Asks", None),
+    ("which ids an address asks for", "Those that the walks follow or stop at.", "vx_addr/specs/Walks.antt", "form_names", None),
+    ("Windows and their order", None, None, None, None),
+    ("the window of bundles", "The instructions from the first member to the last that is looked at.", "vx_serial/specs/Window.antt", "window", None),
+    ("the order of a window", "Its groups by dependences and least first position, each with its members in their own order; none where there is a cycle.", "vx_serial/specs/Window.antt", "order", None),
+    ("the neighbourhood of stores", "Which ids the questions of a trial may name.", "vx_serial/specs/Near.antt", "IsNear", None),
+    ("a row in another order", "Each item stands behind all that it depends on.", "rf_order/specs/Rows.antt", "Reordered", None),
+    ("one run in place of another", "The old one is undefined, or both come to the same.", "rf_order/specs/Rows.antt", "Instead", None),
+    ("accesses that keep apart", "Both only read, or no byte is touched by both.", "rf_order/specs/Swaps.antt", "KeepApart", "Pointer Aliasing Rules"),
+    ("a state that is ready", "Values have their types' shapes, addresses are what their operands make them, and roots that never meet name different objects.", "rf_order/specs/Ready.antt", "IsReady", None),
+    ("a block that is entered", "The same at a place of a block on a walk.", "rf_order/specs/Blocks.antt", "IsEntered", None),
+    ("whole blocks in another order", "A block of a formed module with a window in its order comes to the same, where it was defined.", "rf_order/specs/Blocks.antt", "WholeBlocksRefine", None),
 ]
 
 
