@@ -1,7 +1,9 @@
 -- Lemmas that nobody need believe.
+pub mod Agreeing
 pub mod Answering
 pub mod EmptyLines
 pub mod Feeds
+pub mod Flowing
 pub mod InsideLines
 pub mod ItemsRead
 pub mod LineForms

@@ -29,7 +29,6 @@ use Rattle.ir_read.specs.declared.position.Position.{Position}
 use Rattle.ir_read.specs.declared.position.Spot.{Spot}
 use Rattle.ir_read.specs.declared.position.Spot.TheVariants.{Between, Front, Behind, Cases}
 use Rattle.ir_read.specs.declared.progress.Done.{Done}
-use Rattle.ir_read.specs.declared.progress.Progress.{Progress}
 use Rattle.ir_read.specs.declared.refusal.Limit.{Limit}
 use Rattle.ir_read.specs.declared.refusal.ReadRefusal.{ReadRefusal}
 use Rattle.ir_read.specs.Answers.{◌>>=◌}
@@ -41,7 +40,8 @@ use Rattle.ir_read.specs.Lines.{lines_of}
 use Rattle.ir_read.specs.Faults.{first_fault, unless}
 use Rattle.ir_read.specs.Forms.{form_in, form_by, sound_form, inside_after, forms_from, forms_of}
 use Rattle.ir_read.specs.Outlook.{outlook_of}
-use Rattle.ir_read.specs.Draft.{nothing_done, between, going_on, with_kept, closed, line_inside, header_line, line_outside, line_at, step, within, ended, read_from, draft_of}
+use Rattle.ir_read.specs.Opaque.{is_opaque, text_at}
+use Rattle.ir_read.specs.Draft.{Opened as Current, Nothing, Profile, Passing, Reading, nothing_done, between, going_on, passing, with_kept, with_opaque, closed, line_inside, header_line, function_line, line_outside, line_passed, step_in, step, within, ended, read_from, draft_of}
 
 clash : {P : Type 0} → true ≡ false → P
 clash e = cc
@@ -175,13 +175,14 @@ module _ (IsFine : Head → Type 0) (fine : (l : List ℕ) (name : Option (List 
     headed : IsFine o.head
     goes : (rest : List Numbered) → IsBodyFrom (stage_of o.at.spot) o.at.blocks rest → IsBody (o.body ++ rest)
 
-  IsOpened : Option Open → Bool → Type 0
-  IsOpened None inside = inside ≡ false
-  IsOpened (Some o) inside = (inside ≡ true) × Opened o
+  IsOpened : Current → Bool → Type 0
+  IsOpened Nothing inside = inside ≡ false
+  IsOpened (Profile o) inside = (inside ≡ true) × Opened o
+  IsOpened Passing inside = inside ≡ true
 
-  record Going (read : Progress) (inside : Bool) : Type 0 where
+  record Going (read : Reading) (inside : Bool) : Type 0 where
     done : All (IsReadItem IsFine) read.done.items
-    current : IsOpened read.open_function inside
+    current : IsOpened read.current inside
 
   grown : (o : Open) (n : ℕ) (form : Line) (q : Position) → Opened o → Stands (stage_of o.at.spot) o.at.blocks form →
       stage_behind (stage_of o.at.spot) form ≡ stage_of q.spot → begun_behind (stage_of o.at.spot) o.at.blocks form ≡ q.blocks → Opened (with_line o n form q)
@@ -199,7 +200,7 @@ module _ (IsFine : Head → Type 0) (fine : (l : List ℕ) (name : Option (List 
   going_inside done o d h = record { done = d; current = (refl, h) }
 
   -- a line that is placed in the open function
-  inside_line : (known : Outlook) (n : ℕ) (done : Done) (o : Open) (form : Line) (after : Progress) → Inside form → All (IsReadItem IsFine) done.items → Opened o →
+  inside_line : (known : Outlook) (n : ℕ) (done : Done) (o : Open) (form : Line) (after : Reading) → Inside form → All (IsReadItem IsFine) done.items → Opened o →
       line_inside known n done o form ≡ Ok after → Going after (inside_after true (Some form))
   unfolding line_inside IsOpened closed after_label after_inst after_stmt after_case after_cases at_close stage_of
   inside_line known n done o line.Empty after i d h e = subst (λ x. Going x true) (ok_is e) (going_inside done o d h)
@@ -250,57 +251,86 @@ module _ (IsFine : Head → Type 0) (fine : (l : List ℕ) (name : Option (List 
       subst (λ x. Going x true) (ok_is now) (going_inside done (with_line o n line.CasesEnd q) d g)))
 
   -- a line outside functions
-  outside_line : (known : Outlook) (n : ℕ) (done : Done) (l : List ℕ) (form : Line) (after : Progress) → form_in false l ≡ Some form → All (IsReadItem IsFine) done.items →
-      line_outside known n done form ≡ Ok after → Going after (inside_after false (Some form))
-  unfolding IsOpened with_kept header_line opened_by stage_of
-  outside_line known n done l line.Empty after is d e = subst (λ x. Going x false) (ok_is e) (record { done = d; current = refl })
-  outside_line known n done l (line.Kept kept) after is d e =
-      subst (λ x. Going x false) (ok_is e) (record { done = All-push (IsReadItem IsFine) done.items (item.Kept n kept) d tt; current = refl })
-  outside_line known n done l (line.Define name None) after is d e = refused e
-  outside_line known n done l (line.Define name (Some head)) after is d e =
-      cond_not known.other_pointers _ _ after e (λ _ then'.
-      bind_ok (opened_by n head) _ after then' (λ o was now.
-      bind_ok (after_params n 0 head.params) _ o was (λ next _ here.
-      let h : Opened (record { line = n; head = head; body = []; at = start next }) = record { headed = fine l name head is; goes = λ rest more. more } in
-      subst (λ x. Going x true) (ok_is now) (going_inside done o d (subst Opened (ok_is here) h)))))
-  outside_line known n done l line.Close after is d e = refused e
-  outside_line known n done l (line.Label name) after is d e = refused e
-  outside_line known n done l (line.Stmt s) after is d e = refused e
-  outside_line known n done l (line.Case value label) after is d e = refused e
-  outside_line known n done l line.CasesEnd after is d e = refused e
+  module _ (known : Outlook) (all : List (List ℕ)) (n : ℕ) (fs : List (Option Line)) where
+    -- a header of the profile opens a function
+    header : (done : Done) (l : List ℕ) (name : Option (List ℕ)) (head : Option Head) (after : Reading) → form_in false l ≡ Some (line.Define name head) → All (IsReadItem IsFine) done.items →
+        header_line n done head ≡ Ok after → Going after true
+    unfolding IsOpened header_line opened_by stage_of
+    header done l name None after is d e = refused e
+    header done l name (Some head) after is d e =
+        bind_ok (opened_by n head) _ after e (λ o was now.
+        bind_ok (after_params n 0 head.params) _ o was (λ next _ here.
+        let h : Opened (record { line = n; head = head; body = []; at = start next }) = record { headed = fine l name head is; goes = λ rest more. more } in
+        subst (λ x. Going x true) (ok_is now) (going_inside done o d (subst Opened (ok_is here) h))))
 
-  stepped : (known : Outlook) (n : ℕ) (read : Progress) (inside : Bool) (l : List ℕ) (after : Progress) → Going read inside → step known n read (form_in inside l) ≡ Ok after →
-      Going after (inside_after inside (form_in inside l))
-  unfolding IsOpened
-  stepped known n read inside l after g e = here (form_in inside l) refl e where
-    at_line : (current : Option Open) (form : Line) → IsOpened current inside → form_in inside l ≡ Some form → line_at known n read.done current form ≡ Ok after → Going after (inside_after inside (Some form))
-    at_line None form o is e =
-        subst (λ b. Going after (inside_after b (Some form))) (sym o) (outside_line known n read.done l form after (subst (λ b. form_in b l ≡ Some form) o is) g.done e)
-    at_line (Some f) form o is e =
-        subst (λ b. Going after (inside_after b (Some form))) (sym o.0)
-        (inside_line known n read.done f form after (inside_form l form (subst (λ b. form_in b l ≡ Some form) o.0 is)) g.done o.1 e)
+    function : (done : Done) (l : List ℕ) (name : Option (List ℕ)) (head : Option Head) (after : Reading) → form_in false l ≡ Some (line.Define name head) → All (IsReadItem IsFine) done.items →
+        function_line known all n fs done name head ≡ Ok after → Going after true
+    unfolding IsOpened function_line with_opaque
+    function done l name head after is d e = here (is_opaque known head fs) e where
+      here : (b : Bool) → cond b (Ok (passing (with_opaque done n name (text_at all n fs)))) (header_line n done head) ≡ Ok after → Going after true
+      here true e = subst (λ x. Going x true) (ok_is e) (record { done = All-push (IsReadItem IsFine) done.items (item.Opaque n name (text_at all n fs)) d tt; current = refl })
+      here false e = header done l name head after is d e
 
-    here : (f : Option Line) → form_in inside l ≡ f → step known n read f ≡ Ok after → Going after (inside_after inside f)
-    here None is e = refused e
-    here (Some form) is e = at_line read.open_function form g.current is e
+    outside_line : (done : Done) (l : List ℕ) (form : Line) (after : Reading) → form_in false l ≡ Some form → All (IsReadItem IsFine) done.items →
+        line_outside known all n fs done form ≡ Ok after → Going after (inside_after false (Some form))
+    unfolding IsOpened with_kept
+    outside_line done l line.Empty after is d e = subst (λ x. Going x false) (ok_is e) (record { done = d; current = refl })
+    outside_line done l (line.Kept kept) after is d e =
+        subst (λ x. Going x false) (ok_is e) (record { done = All-push (IsReadItem IsFine) done.items (item.Kept n kept) d tt; current = refl })
+    outside_line done l (line.Define name head) after is d e = function done l name head after is d e
+    outside_line done l line.Close after is d e = refused e
+    outside_line done l (line.Label name) after is d e = refused e
+    outside_line done l (line.Stmt s) after is d e = refused e
+    outside_line done l (line.Case value label) after is d e = refused e
+    outside_line done l line.CasesEnd after is d e = refused e
 
-  all_read : (known : Outlook) (n : ℕ) (read : Progress) (inside : Bool) (ls : List (List ℕ)) (d : Draft) → Going read inside → read_from known n read (forms_from inside ls) ≡ Ok d →
+    -- a line of an opaque function
+    passed_line : (done : Done) (f : Option Line) → All (IsReadItem IsFine) done.items → Going (line_passed done f) (inside_after true f)
+    unfolding IsOpened
+    passed_line done None d = record { done = d; current = refl }
+    passed_line done (Some line.Close) d = record { done = d; current = refl }
+    passed_line done (Some line.Empty) d = record { done = d; current = refl }
+    passed_line done (Some (line.Kept kept)) d = record { done = d; current = refl }
+    passed_line done (Some (line.Define name head)) d = record { done = d; current = refl }
+    passed_line done (Some (line.Label name)) d = record { done = d; current = refl }
+    passed_line done (Some (line.Stmt s)) d = record { done = d; current = refl }
+    passed_line done (Some (line.Case value label)) d = record { done = d; current = refl }
+    passed_line done (Some line.CasesEnd) d = record { done = d; current = refl }
+
+    stepped : (read : Reading) (inside : Bool) (l : List ℕ) (after : Reading) → Going read inside → step known all n fs read (form_in inside l) ≡ Ok after →
+        Going after (inside_after inside (form_in inside l))
+    unfolding IsOpened
+    stepped read inside l after g e = at_line read.current (form_in inside l) g.current refl e where
+      at_line : (current : Current) (f : Option Line) → IsOpened current inside → form_in inside l ≡ f → step_in known all n fs read.done current f ≡ Ok after → Going after (inside_after inside f)
+      at_line Passing f o is e =
+          subst (λ b. Going after (inside_after b f)) (sym o) (subst (λ x. Going x (inside_after true f)) (ok_is e) (passed_line read.done f g.done))
+      at_line Nothing None o is e = refused e
+      at_line (Profile p) None o is e = refused e
+      at_line Nothing (Some form) o is e =
+          subst (λ b. Going after (inside_after b (Some form))) (sym o) (outside_line read.done l form after (subst (λ b. form_in b l ≡ Some form) o is) g.done e)
+      at_line (Profile p) (Some form) o is e =
+          subst (λ b. Going after (inside_after b (Some form))) (sym o.0)
+          (inside_line known n read.done p form after (inside_form l form (subst (λ b. form_in b l ≡ Some form) o.0 is)) g.done o.1 e)
+
+  all_read : (known : Outlook) (all : List (List ℕ)) (n : ℕ) (read : Reading) (inside : Bool) (ls : List (List ℕ)) (d : Draft) → Going read inside → read_from known all n read (forms_from inside ls) ≡ Ok d →
       All (IsReadItem IsFine) d.items
-  all_read known n read inside [] d g e = here read.open_function e where
+  all_read known all n read inside [] d g e = here read.current e where
     kept : (over : Option Limit) → within read.done over ≡ Ok d → All (IsReadItem IsFine) d.items
     kept None e = subst (λ (x : Draft). All (IsReadItem IsFine) x.items) (ok_is e) g.done
     kept (Some which) e = refused e
 
-    here : (current : Option Open) → ended n read.done current ≡ Ok d → All (IsReadItem IsFine) d.items
-    here None e = kept (passed read.done.size) e
-    here (Some o) e = refused e
-  all_read known n read inside (l ∷ ls) d g e =
-      bind_ok (step known n read (form_in inside l)) _ d e (λ after was now.
-      all_read known (n + 1) after (inside_after inside (form_in inside l)) ls d (stepped known n read inside l after g was) now)
+    here : (current : Current) → ended n read.done current ≡ Ok d → All (IsReadItem IsFine) d.items
+    here Nothing e = kept (passed read.done.size) e
+    here (Profile o) e = refused e
+    here Passing e = refused e
+  all_read known all n read inside (l ∷ ls) d g e =
+      let fs : List (Option Line) = forms_from (inside_after inside (form_in inside l)) ls in
+      bind_ok (step known all n fs read (form_in inside l)) _ d e (λ after was now.
+      all_read known all (n + 1) after (inside_after inside (form_in inside l)) ls d (stepped known all n fs read inside l after g was) now)
 
-  -- every function of a draft that was read has a fine header, and a body whose lines stand where they may
+  -- every function of the profile of a draft that was read has a fine header, and a body whose lines stand where they may
   pub draft_is_read : (bytes : List ℕ) (d : Draft) → draft_of bytes ≡ Ok d → All (IsReadItem IsFine) d.items
   unfolding IsOpened
   draft_is_read bytes d e =
       bind_ok (unless (first_fault 1 (lines_of bytes)) (outlook_of (forms_of (lines_of bytes)))) _ d e (λ known _ now.
-      all_read known 1 (between nothing_done) false (lines_of bytes) d (record { done = All-nil (IsReadItem IsFine); current = refl }) now)
+      all_read known (lines_of bytes) 1 (between nothing_done) false (lines_of bytes) d (record { done = All-nil (IsReadItem IsFine); current = refl }) now)

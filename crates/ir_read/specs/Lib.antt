@@ -9,5 +9,7 @@ pub mod Items
 pub mod Limits
 pub mod Lines
 pub mod Numbers
+pub mod Opaque
 pub mod Outlook
 pub mod Position
+pub mod Steps
