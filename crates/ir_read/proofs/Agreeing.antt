@@ -56,6 +56,10 @@ dropped (suc k) (x ∷ xs) l ls e = dropped k xs l ls e
 dropped_next : (n : ℕ) (all : List (List ℕ)) (l : List ℕ) (ls : List (List ℕ)) → 1 ≤ n → drop (n - 1) all ≡ l ∷ ls → drop (n + 1 - 1) all ≡ ls
 dropped_next n all l ls some e = let same : n + 1 - 1 ≡ suc (n - 1) = omega arith in ap (λ k. drop k all) same ∙ dropped (n - 1) all l ls e
 
+-- the function that a header opens
+abbrev made : ℕ → Head → ℕ → Open
+made n head k = record { line = n; head = head; body = []; at = start k }
+
 module _ (known : Outlook) (all : List (List ℕ)) where
   -- so many lines from the line h on
   abbrev text : ℕ → ℕ → List ℕ
@@ -66,12 +70,12 @@ module _ (known : Outlook) (all : List (List ℕ)) where
   kept done h name k n fs = read_from known all n (passing (with_opaque done h name (text h k))) fs
 
   record Agrees (n : ℕ) (ls : List (List ℕ)) : Type 0 where
-    outside : (done : Done) (from : List (List ℕ)) → steps_from known n (outside done) from ls ≡ read_from known all n (between done) (forms_from false ls)
-    sound : (done : Done) (name : Option (List ℕ)) (o : Open) → o.line < n → steps_from known n (sound done name o) (drop (o.line - 1) all) ls
+    in_module : (done : Done) (from : List (List ℕ)) → steps_from known n (outside done) from ls ≡ read_from known all n (between done) (forms_from false ls)
+    in_sound : (done : Done) (name : Option (List ℕ)) (o : Open) → o.line < n → steps_from known n (sound done name o) (drop (o.line - 1) all) ls
         ≡ cond (any_foreign known.names o.at (forms_from true ls)) (kept done o.line name (n - o.line + to_brace (forms_from true ls)) n (forms_from true ls)) (read_from known all n (going_on done o) (forms_from true ls))
-    faulty : (done : Done) (g : Origin) (p : Position) (m : ℕ) → g.line < n → steps_from known n (faulty done g p m) (drop (g.line - 1) all) ls
+    in_faulty : (done : Done) (g : Origin) (p : Position) (m : ℕ) → g.line < n → steps_from known n (faulty done g p m) (drop (g.line - 1) all) ls
         ≡ cond (any_foreign known.names p (forms_from true ls)) (kept done g.line g.name (n - g.line + to_brace (forms_from true ls)) n (forms_from true ls)) (Err (Misplaced m))
-    opaque : (done : Done) (g : Origin) → g.line < n → steps_from known n (opaque done g) (drop (g.line - 1) all) ls
+    in_opaque : (done : Done) (g : Origin) → g.line < n → steps_from known n (opaque done g) (drop (g.line - 1) all) ls
         ≡ kept done g.line g.name (n - g.line + to_brace (forms_from true ls)) n (forms_from true ls)
 
   -- one more line, where the lines behind it agree
@@ -83,18 +87,18 @@ module _ (known : Outlook) (all : List (List ℕ)) where
     kept_same done h name a b gs e = ap (λ k. kept done h name k (n + 1) gs) e
 
     opaque_next : (done : Done) (g : Origin) → g.line < n → steps_from known (n + 1) (opaque done g) (drop (g.line - 1) all) ls ≡ kept done g.line g.name (n - g.line + suc (to_brace fs)) (n + 1) fs
-    opaque_next done g older = next.opaque done g (less_next g.line n older) ∙ kept_same done g.line g.name _ _ fs (shifted g.line n (to_brace fs) older)
+    opaque_next done g older = next.in_opaque done g (less_next g.line n older) ∙ kept_same done g.line g.name _ _ fs (shifted g.line n (to_brace fs) older)
 
     faulty_next : (done : Done) (g : Origin) (p : Position) (m : ℕ) → g.line < n → steps_from known (n + 1) (faulty done g p m) (drop (g.line - 1) all) ls
         ≡ cond (any_foreign known.names p fs) (kept done g.line g.name (n - g.line + suc (to_brace fs)) (n + 1) fs) (Err (Misplaced m))
     faulty_next done g p m older =
-        next.faulty done g p m (less_next g.line n older)
+        next.in_faulty done g p m (less_next g.line n older)
         ∙ ap (λ (x : Read). cond (any_foreign known.names p fs) x (Err (Misplaced m))) (kept_same done g.line g.name _ _ fs (shifted g.line n (to_brace fs) older))
 
     sound_next : (done : Done) (name : Option (List ℕ)) (o : Open) → o.line < n → steps_from known (n + 1) (sound done name o) (drop (o.line - 1) all) ls
         ≡ cond (any_foreign known.names o.at fs) (kept done o.line name (n - o.line + suc (to_brace fs)) (n + 1) fs) (read_from known all (n + 1) (going_on done o) fs)
     sound_next done name o older =
-        next.sound done name o (less_next o.line n older)
+        next.in_sound done name o (less_next o.line n older)
         ∙ ap (λ (x : Read). cond (any_foreign known.names o.at fs) x (read_from known all (n + 1) (going_on done o) fs)) (kept_same done o.line name _ _ fs (shifted o.line n (to_brace fs) older))
 
     -- ---- in an opaque function
@@ -105,7 +109,7 @@ module _ (known : Outlook) (all : List (List ℕ)) where
     opaque_line done g None older = opaque_next done g older
     opaque_line done g (Some line.Close) older =
         ap (λ k. steps_from known (n + 1) (outside (with_opaque done g.line g.name (text g.line k))) (drop (g.line - 1) all) ls) (one_more g.line n)
-        ∙ next.outside (with_opaque done g.line g.name (text g.line (n - g.line + 1))) (drop (g.line - 1) all)
+        ∙ next.in_module (with_opaque done g.line g.name (text g.line (n - g.line + 1))) (drop (g.line - 1) all)
     opaque_line done g (Some line.Empty) older = opaque_next done g older
     opaque_line done g (Some (line.Kept k)) older = opaque_next done g older
     opaque_line done g (Some (line.Define name head)) older = opaque_next done g older
@@ -165,7 +169,7 @@ module _ (known : Outlook) (all : List (List ℕ)) where
       closing : (b : Bool) →
           (judged n done name o line.Close (cond b (Ok o.at) (Err (Misplaced n))) >>= behind)
           ≡ (cond b (Ok o.at) (Err (Misplaced n)) >>= (λ q. Ok (placed done o n line.Close q)) >>= (λ after. read_from known all (n + 1) after (forms_from false ls)))
-      closing true = next.outside (closed done o) (drop (o.line - 1) all)
+      closing true = next.in_module (closed done o) (drop (o.line - 1) all)
       closing false = refl
 
       sound_line : (f : Option Line) →
@@ -189,30 +193,28 @@ module _ (known : Outlook) (all : List (List ℕ)) where
       abbrev onward : Progress → Read
       onward after = steps_from known (n + 1) after from ls
 
-      kept_whole : (name : Option (List ℕ)) → Read
+      abbrev kept_whole : Option (List ℕ) → Read
       kept_whole name = read_from known all (n + 1) (passing (with_opaque done n name (text n (suc (to_brace fs))))) fs
 
       opaque_begun : (name : Option (List ℕ)) → onward (opaque done (began n name)) ≡ kept_whole name
-      unfolding kept_whole
       opaque_begun name =
           ap (λ from. steps_from known (n + 1) (opaque done (began n name)) from ls) here
-          ∙ next.opaque done (began n name) (self_next n) ∙ kept_same done n name _ _ fs (first_line n (to_brace fs))
+          ∙ next.in_opaque done (began n name) (self_next n) ∙ kept_same done n name _ _ fs (first_line n (to_brace fs))
 
       header_begun : (name : Option (List ℕ)) (head : Head) (r : Result ℕ ReadRefusal) → Counted n r →
-          (header_opens n done name (r >>= (λ k. Ok (record { line = n; head = head; body = []; at = start k }))) >>= onward)
+          (header_opens n done name (r >>= (λ k. Ok (made n head k))) >>= onward)
           ≡ cond (any_foreign known.names (start 0) fs) (kept_whole name)
-          (r >>= (λ k. Ok (record { line = n; head = head; body = []; at = start k })) >>= (λ o. Ok (going_on done o)) >>= (λ after. read_from known all (n + 1) after fs))
-      unfolding kept_whole
+          (r >>= (λ k. Ok (made n head k)) >>= (λ o. Ok (going_on done o)) >>= (λ after. read_from known all (n + 1) after fs))
       header_begun name head _ (Counts k) =
-          let o : Open = record { line = n; head = head; body = []; at = start k } in
+          let o : Open = made n head k in
           let rest : Read = read_from known all (n + 1) (going_on done o) fs in
           ap (λ from. steps_from known (n + 1) (sound done name o) from ls) here
-          ∙ next.sound done name o (self_next n)
+          ∙ next.in_sound done name o (self_next n)
           ∙ ap (λ b. cond b (kept done n name (n + 1 - n + to_brace fs) (n + 1) fs) rest) (any_same known.names (start k) (start 0) fs refl)
           ∙ ap (λ (x : Read). cond (any_foreign known.names (start 0) fs) x rest) (kept_same done n name _ _ fs (first_line n (to_brace fs)))
       header_begun name head _ Miscounts =
           ap (λ from. steps_from known (n + 1) (faulty done (began n name) (start 0) n) from ls) here
-          ∙ next.faulty done (began n name) (start 0) n (self_next n)
+          ∙ next.in_faulty done (began n name) (start 0) n (self_next n)
           ∙ ap (λ (x : Read). cond (any_foreign known.names (start 0) fs) x (Err (Misplaced n))) (kept_same done n name _ _ fs (first_line n (to_brace fs)))
 
       pushed : (b : Bool) (p : Reading) (h : Result Reading ReadRefusal) (k : Reading → Read) → cond b (k p) (h >>= k) ≡ (cond b (Ok p) h >>= k)
@@ -221,7 +223,7 @@ module _ (known : Outlook) (all : List (List ℕ)) where
 
       define_line : (name : Option (List ℕ)) (head : Option Head) →
           (define_step known n done name head >>= onward) ≡ (function_line known all n fs done name head >>= (λ after. read_from known all (n + 1) after fs))
-      unfolding define_step function_line is_opaque header_line text_at opened_by kept_whole
+      unfolding define_step function_line is_opaque header_line text_at opened_by
       define_line name head = by_layout known.other_pointers head where
         by_layout : (other : Bool) (head : Option Head) →
             (cond other (Ok (opaque done (began n name))) (header_step n done name head) >>= onward)
@@ -236,8 +238,8 @@ module _ (known : Outlook) (all : List (List ℕ)) where
           (outside_step known n done f >>= onward)
           ≡ (step_in known all n (forms_from (inside_after false f) ls) done Nothing f >>= (λ after. read_from known all (n + 1) after (forms_from (inside_after false f) ls)))
       outside_line None = refl
-      outside_line (Some line.Empty) = next.outside done from
-      outside_line (Some (line.Kept k)) = next.outside (with_kept done n k) from
+      outside_line (Some line.Empty) = next.in_module done from
+      outside_line (Some (line.Kept k)) = next.in_module (with_kept done n k) from
       outside_line (Some (line.Define name head)) = define_line name head
       outside_line (Some line.Close) = refl
       outside_line (Some (line.Label name)) = refl
@@ -247,19 +249,19 @@ module _ (known : Outlook) (all : List (List ℕ)) where
 
   agree : (ls : List (List ℕ)) (n : ℕ) → 1 ≤ n → drop (n - 1) all ≡ ls → Agrees n ls
   agree [] n some e = record {
-    outside = λ done from. refl;
-    sound = λ done name o older. refl;
-    faulty = λ done g p m older. refl;
-    opaque = λ done g older. refl;
+    in_module = λ done from. refl;
+    in_sound = λ done name o older. refl;
+    in_faulty = λ done g p m older. refl;
+    in_opaque = λ done g older. refl;
   }
   agree (l ∷ ls) n some e =
       let next : Agrees (n + 1) ls = agree ls (n + 1) (omega arith) (dropped_next n all l ls some e) in record {
-        outside = λ done from. outside_line n ls next done (l ∷ ls) (sym e) (form_in false l);
-        sound = λ done name o older. sound_line n ls next done name o older (form_in true l);
-        faulty = λ done g p m older. faulty_line n ls next done g p m (form_in true l) older;
-        opaque = λ done g older. opaque_line n ls next done g (form_in true l) older;
+        in_module = λ done from. outside_line n ls next done (l ∷ ls) (sym e) (form_in false l);
+        in_sound = λ done name o older. sound_line n ls next done name o older (form_in true l);
+        in_faulty = λ done g p m older. faulty_line n ls next done g p m (form_in true l) older;
+        in_opaque = λ done g older. opaque_line n ls next done g (form_in true l) older;
       }
 
 -- lines read one by one are what they are by all of them
 pub steps_are : (known : Outlook) (ls : List (List ℕ)) → steps_from known 1 (outside nothing_done) ls ls ≡ read_from known ls 1 (between nothing_done) (forms_of ls)
-steps_are known ls = (agree known ls ls 1 (omega arith) refl).outside nothing_done ls
+steps_are known ls = (agree known ls ls 1 (omega arith) refl).in_module nothing_done ls
