@@ -136,7 +136,7 @@ fn opened(
     name: Option<Bytes>,
     head: Option<Head>,
 ) -> Result<Current, ReadRefusal>
-    ensures { (done : Done) → Gives (λ open. record { done = done; current = open }) result (steps.define_step known.now line done name head) }
+    ensures { (done : Done) → Gives (λ found. record { done = done; current = found }) result (steps.define_step known.now line done name head) }
 {
     if known.other_pointers {
         return Ok(Current::Opaque(Origin { line, name }));
