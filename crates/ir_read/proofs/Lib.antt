@@ -6,6 +6,7 @@ pub mod Feeds
 pub mod Flowing
 pub mod InsideLines
 pub mod ItemsRead
+pub mod Joining
 pub mod LineForms
 pub mod LoneBraces
 pub mod Named

@@ -109,11 +109,10 @@ faulty_step known done f (Some line.Close) = Err (Misplaced f.line)
 faulty_step known done f (Some form) =
     cond (is_foreign_line known.names f.at form) (Ok (opaque done f.origin)) (Ok (faulty done f.origin (passed_over f.at form) f.line))
 
--- the open function as such a line left it, of which this was found
-abbrev pub faulty_taken : Done → Faulty → Verdict → Result Progress ReadRefusal
-faulty_taken done f verdict.Stands = Ok (record { done = done; current = current.Misplaced f })
-faulty_taken done f verdict.Ends = Err (Misplaced f.line)
-faulty_taken done f _ = Ok (opaque done f.origin)
+-- the function as such a line left it, where that is outside the profile or not
+abbrev pub faulty_taken : Done → Faulty → Bool → Progress
+faulty_taken done f true = opaque done f.origin
+faulty_taken done f false = record { done = done; current = current.Misplaced f }
 
 abbrev pub is_close : Option Line → Bool
 is_close (Some line.Close) = true

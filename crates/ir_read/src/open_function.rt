@@ -2,11 +2,13 @@
 //!
 //! A header opens one, each line adds to it. A header whose numbered parameters are out of order is misplaced.
 
-ghost use Rattle.std.specs.Prelude.{◌≡◌, OnOk, ℕ, List, Option};
-ghost use Rattle.ir_read.specs.Answers.{Gives};
+ghost use Rattle.std.specs.Prelude.{◌≡◌, OnOk, IfOk, ℕ, List, Option, Result};
+ghost use Rattle.ir_read.specs.Answers.{Gives, Refuses};
 ghost use Rattle.ir_read.specs.Function as function;
 ghost use Rattle.ir_read.specs.Steps as steps;
+ghost use Rattle.ir_read.specs.declared.position.Position.{Position};
 ghost use Rattle.ir_read.specs.declared.progress.Done.{Done};
+ghost use Rattle.ir_read.specs.declared.refusal.ReadRefusal.{ReadRefusal};
 
 use crate::ReadRefusal;
 use crate::function::after_line;
@@ -69,17 +71,38 @@ impl OpenFunction {
             return Ok(Verdict::Foreign);
         };
         match after_line(&known.names, line, self.at, &form) {
-            Ok(at) => match form {
-                Line::Empty => Ok(Verdict::Stands),
-                Line::Close => Ok(Verdict::Ends),
-                _ => {
-                    self.add(line, form, at)?;
-                    Ok(Verdict::Stands)
-                }
-            },
-            Err(ReadRefusal::Misplaced { line: _ }) => self.misplace(line, &form),
-            Err(ReadRefusal::OutOfMemory) => Err(ReadRefusal::OutOfMemory),
-            Err(_) => Ok(Verdict::Foreign),
+            Ok(at) => Ok(self.place(line, form, at)?),
+            Err(refusal) => self.refuse(line, &form, refusal),
+        }
+    }
+
+    /// Takes a line that stands where it may.
+    fn place(&mut self, line: u32, form: Line, at: Position) -> Result<Verdict, AllocError>
+        ensures { (done : Done) → (name : Option (List ℕ)) → IfOk result (λ verdict. steps.taken line done name self.new verdict ≡ steps.added line done name self.old form at) }
+    {
+        match form {
+            Line::Empty => Ok(Verdict::Stands),
+            Line::Close => Ok(Verdict::Ends),
+            _ => {
+                self.add(line, form, at)?;
+                Ok(Verdict::Stands)
+            }
+        }
+    }
+
+    /// Looks at a line that may not stand where it does: it is outside the profile or misplaced.
+    fn refuse(
+        &mut self,
+        line: u32,
+        form: &Line,
+        refusal: ReadRefusal,
+    ) -> Result<Verdict, ReadRefusal>
+        ensures { (done : Done) → (name : Option (List ℕ)) → (said : Result Position ReadRefusal) → Refuses refusal said → Gives (steps.taken line done name self.new) result (steps.judged line done name self.old form.now said) }
+    {
+        match refusal {
+            ReadRefusal::OutOfMemory => Err(ReadRefusal::OutOfMemory),
+            ReadRefusal::Misplaced { .. } => self.misplace(line, form),
+            _ => Ok(Verdict::Foreign),
         }
     }
 

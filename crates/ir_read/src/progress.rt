@@ -4,7 +4,7 @@
 //!
 //! A line that is outside the profile makes its function opaque, and so a misplaced line is kept in mind up to the brace of its function.
 
-ghost use Rattle.std.specs.Prelude.{◌≡◌, ◌-◌, Some, None, OnOk, IfOk, ℕ, suc, take, List, Option};
+ghost use Rattle.std.specs.Prelude.{◌≡◌, ◌-◌, Some, None, Ok, OnOk, IfOk, ℕ, suc, take, List, Option};
 ghost use Rattle.ir_read.specs.Answers.{Gives};
 ghost use Rattle.ir_read.specs.Draft as draft;
 ghost use Rattle.ir_read.specs.Lines.{lines_of};
@@ -156,20 +156,27 @@ fn opened(
 }
 
 impl Faulty {
-    /// Takes a line of the function, where it has a form.
-    fn take(&mut self, known: &Outlook, form: &Option<Line>) -> Result<Verdict, AllocError>
-        ensures { (done : Done) → IfOk result (λ verdict. steps.faulty_taken done self.new verdict ≡ steps.faulty_step known.now done self.old form.now) }
+    /// Goes on behind a line of this form; answers whether it is outside the profile.
+    fn pass(&mut self, known: &Outlook, form: &Line) -> Result<bool, ReadRefusal>
+        ensures { (done : Done) → Gives (steps.faulty_taken done self.new) result (steps.faulty_step known.now done self.old (Some form.now)) }
+    {
+        if let Line::Close = form {
+            return Err(ReadRefusal::Misplaced { line: self.line });
+        }
+        if is_foreign_line(&known.names, self.at, form) {
+            return Ok(true);
+        }
+        self.at = self.at.passed_over(form)?;
+        Ok(false)
+    }
+
+    /// Takes a line of the function, where it has a form; answers whether it is outside the profile.
+    fn take(&mut self, known: &Outlook, form: &Option<Line>) -> Result<bool, ReadRefusal>
+        ensures { (done : Done) → Gives (steps.faulty_taken done self.new) result (steps.faulty_step known.now done self.old form.now) }
     {
         match form {
-            None => Ok(Verdict::Foreign),
-            Some(Line::Close) => Ok(Verdict::Ends),
-            Some(form) => {
-                if is_foreign_line(&known.names, self.at, form) {
-                    return Ok(Verdict::Foreign);
-                }
-                self.at = self.at.passed_over(form)?;
-                Ok(Verdict::Stands)
-            }
+            None => Ok(true),
+            Some(form) => self.pass(known, form),
         }
     }
 }
@@ -305,6 +312,35 @@ impl Progress {
         }
     }
 
+    /// A line of a function that is opaque or has a misplaced line.
+    fn passed_step(
+        &mut self,
+        alloc: Global,
+        known: &Outlook,
+        line: u32,
+        from: &[u8],
+        form: &Option<Line>,
+    ) -> Result<(), ReadRefusal>
+        ensures faulty { (f : Faulty) → self.old.current ≡ current.Misplaced f → Gives (λ _. self.new) result (steps.faulty_step known.now self.old.done f form.now) }
+        ensures opaque { (f : Origin) → self.old.current ≡ current.Opaque f → Gives (λ _. self.new) result (Ok (steps.opaque_step line (lines_of from.now) self.old.done f form.now)) }
+    {
+        match &mut self.current {
+            Current::Misplaced(faulty) => {
+                if faulty.take(known, form)? {
+                    self.turn_opaque();
+                }
+                Ok(())
+            }
+            Current::Opaque(_) => {
+                if is_close(form) {
+                    self.end_opaque(alloc, line, from)?;
+                }
+                Ok(())
+            }
+            _ => Ok(()),
+        }
+    }
+
     /// One more line, with its form if it has one; the text is that from the header of the open function on.
     pub(crate) fn step(
         &mut self,
@@ -323,19 +359,8 @@ impl Progress {
                 self.settle(line, verdict)?;
                 Ok(())
             }
-            Current::Misplaced(faulty) => match faulty.take(known, &form)? {
-                Verdict::Ends => Err(ReadRefusal::Misplaced { line: faulty.line }),
-                Verdict::Stands => Ok(()),
-                _ => {
-                    self.turn_opaque();
-                    Ok(())
-                }
-            },
-            Current::Opaque(_) => {
-                if is_close(&form) {
-                    self.end_opaque(alloc, line, from)?;
-                }
-                Ok(())
+            Current::Misplaced(_) | Current::Opaque(_) => {
+                self.passed_step(alloc, known, line, from, &form)
             }
         }
     }
