@@ -1,5 +1,5 @@
 -- A text read line by line is what it is where each function is judged by all its lines where it begins.
-use Rattle.std.proofs.Common.{◌≡◌, ℕ, suc, ◌+◌, ◌-◌, ◌<◌, ◌≤◌, Bool, true, false, cond, not, ◌&&◌, ◌||◌, List, [], ◌∷◌, drop, take, Option, Some, None, Result, Ok, Err, nat_eq, refl, sym, ◌∙◌, ap, subst, arith}
+use Rattle.std.proofs.Common.{◌≡◌, ℕ, zero, suc, ◌+◌, ◌-◌, ◌<◌, ◌≤◌, Bool, true, false, cond, not, ◌&&◌, ◌||◌, List, [], ◌∷◌, drop, take, Option, Some, None, Result, Ok, Err, nat_eq, refl, sym, ◌∙◌, ap, subst, arith}
 use Rattle.ir_line.specs.declared.line.Line.{Line}
 use Rattle.ir_line.specs.declared.line.Line.TheVariants as line
 use Rattle.ir_line.specs.declared.head.Head.{Head}
@@ -48,8 +48,8 @@ self_next : (n : ℕ) → n < n + 1
 self_next n = omega arith
 
 dropped : (k : ℕ) (all : List (List ℕ)) (l : List ℕ) (ls : List (List ℕ)) → drop k all ≡ l ∷ ls → drop (suc k) all ≡ ls
-dropped 0 [] l ls e = cc
-dropped 0 (x ∷ xs) l ls e = cc
+dropped zero [] l ls e = cc
+dropped zero (x ∷ xs) l ls e = cc
 dropped (suc k) [] l ls e = cc
 dropped (suc k) (x ∷ xs) l ls e = dropped k xs l ls e
 

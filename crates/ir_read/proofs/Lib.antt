@@ -14,3 +14,4 @@ pub mod Placing
 pub mod ReadBodies
 pub mod ReadItems
 pub mod Splitting
+pub mod Stepping

@@ -53,6 +53,12 @@ abbrev pub is_inside : Current → Bool
 is_inside current.Outside = false
 is_inside _ = true
 
+-- whether the function that is open is opaque or has a misplaced line
+abbrev pub is_passed : Current → Bool
+is_passed (current.Misplaced f) = true
+is_passed (current.Opaque from) = true
+is_passed _ = false
+
 -- ---- lines
 
 -- the function that a header of the profile in the line n opens

@@ -4,7 +4,7 @@
 //!
 //! A line that is outside the profile makes its function opaque, and so a misplaced line is kept in mind up to the brace of its function.
 
-ghost use Rattle.std.specs.Prelude.{◌≡◌, ◌-◌, Some, None, Ok, OnOk, IfOk, ℕ, suc, take, List, Option};
+ghost use Rattle.std.specs.Prelude.{◌≡◌, ◌-◌, Some, None, Ok, OnOk, IfOk, ℕ, suc, take, true, List, Option};
 ghost use Rattle.ir_read.specs.Answers.{Gives};
 ghost use Rattle.ir_read.specs.Draft as draft;
 ghost use Rattle.ir_read.specs.Lines.{lines_of};
@@ -321,8 +321,7 @@ impl Progress {
         from: &[u8],
         form: &Option<Line>,
     ) -> Result<(), ReadRefusal>
-        ensures faulty { (f : Faulty) → self.old.current ≡ current.Misplaced f → Gives (λ _. self.new) result (steps.faulty_step known.now self.old.done f form.now) }
-        ensures opaque { (f : Origin) → self.old.current ≡ current.Opaque f → Gives (λ _. self.new) result (Ok (steps.opaque_step line (lines_of from.now) self.old.done f form.now)) }
+        ensures { steps.is_passed self.old.current ≡ true → Gives (λ _. self.new) result (steps.line_step known.now line (lines_of from.now) self.old form.now) }
     {
         match &mut self.current {
             Current::Misplaced(faulty) => {
@@ -339,6 +338,20 @@ impl Progress {
             }
             _ => Ok(()),
         }
+    }
+
+    /// The same, where the line's form is not wanted any more.
+    fn passed_line(
+        &mut self,
+        alloc: Global,
+        known: &Outlook,
+        line: u32,
+        from: &[u8],
+        form: Option<Line>,
+    ) -> Result<(), ReadRefusal>
+        ensures { steps.is_passed self.old.current ≡ true → Gives (λ _. self.new) result (steps.line_step known.now line (lines_of from.now) self.old form) }
+    {
+        self.passed_step(alloc, known, line, from, &form)
     }
 
     /// One more line, with its form if it has one; the text is that from the header of the open function on.
@@ -360,7 +373,7 @@ impl Progress {
                 Ok(())
             }
             Current::Misplaced(_) | Current::Opaque(_) => {
-                self.passed_step(alloc, known, line, from, &form)
+                self.passed_line(alloc, known, line, from, form)
             }
         }
     }
