@@ -265,3 +265,9 @@ module _ (known : Outlook) (all : List (List ℕ)) where
 -- lines read one by one are what they are by all of them
 pub steps_are : (known : Outlook) (ls : List (List ℕ)) → steps_from known 1 (outside nothing_done) ls ls ≡ read_from known ls 1 (between nothing_done) (forms_of ls)
 steps_are known ls = (agree known ls ls 1 (omega arith) refl).in_module nothing_done ls
+
+-- and so the steps come to the draft, where this is known of the whole text
+pub draft_known : (bytes : List ℕ) (known : Outlook) → unless (first_fault 1 (lines_of bytes)) (outlook_of (forms_of (lines_of bytes))) ≡ Ok known → steps_from known 1 (outside nothing_done) (lines_of bytes) (lines_of bytes) ≡ draft_of bytes
+draft_known bytes known said =
+    steps_are known (lines_of bytes)
+    ∙ sym (ap (λ (r : Result Outlook ReadRefusal). r >>= (λ k. read_from k (lines_of bytes) 1 (between nothing_done) (forms_of (lines_of bytes)))) said)
