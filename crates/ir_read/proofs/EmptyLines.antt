@@ -5,15 +5,16 @@ use Rattle.ir_lex.specs.Scan.{fault_of, cut}
 use Rattle.ir_line.specs.declared.line.Line.TheVariants as line
 use Rattle.ir_line.specs.Body.{read_body}
 use Rattle.ir_line.specs.Outside.{read_outside}
-use Rattle.ir_read.specs.declared.open_function.OpenFunction.{OpenFunction as Open}
 use Rattle.ir_read.specs.declared.outlook.Outlook.{Outlook}
 use Rattle.ir_read.specs.declared.progress.Done.{Done}
+use Rattle.ir_read.specs.declared.progress.Current.{Current}
+use Rattle.ir_read.specs.declared.progress.Current.TheVariants as current
 use Rattle.ir_read.specs.declared.progress.Progress.{Progress}
 use Rattle.ir_read.specs.declared.refusal.ReadRefusal.{ReadRefusal}
 use Rattle.ir_read.specs.Faults.{first_fault, or_later}
 use Rattle.ir_read.specs.Forms.{form_by, form_in}
 use Rattle.ir_read.specs.Outlook.{line_seen}
-use Rattle.ir_read.specs.Draft.{line_inside, line_at, line_judged}
+use Rattle.ir_read.specs.Steps.{is_inside, sound_step, current_step, line_step}
 use Rattle.ir_read.proofs.InsideLines.{nothing_more}
 
 -- no bytes are an empty line, in a function and outside
@@ -22,10 +23,12 @@ unfolding form_in form_by read_body read_outside cut
 empty_form true = refl
 empty_form false = refl
 
-empty_at : (known : Outlook) (n : ℕ) (done : Done) (o : Option Open) → line_at known n done o line.Empty ≡ Ok (record { done = done; open_function = o })
-unfolding line_inside
-empty_at known n done None = refl
-empty_at known n done (Some o) = refl
+empty_at : (known : Outlook) (n : ℕ) (ls : List (List ℕ)) (done : Done) (c : Current) → current_step known n ls done c (Some line.Empty) ≡ Ok (record { done = done; current = c })
+unfolding sound_step
+empty_at known n ls done current.Outside = refl
+empty_at known n ls done (current.Sound name o) = refl
+empty_at known n ls done (current.Misplaced f) = refl
+empty_at known n ls done (current.Opaque from) = refl
 
 by_length : (P : List ℕ → Type 0) (l : List ℕ) → P [] → (length l == 0) ≡ true → P l
 by_length P [] h e = h
@@ -39,9 +42,9 @@ empty_seen o n inside l out e =
     by_length (λ x. line_seen o n inside x ≡ Ok (o, false)) l (rw (out, empty_form false, nothing_more o) refl) e
 
 -- and leaves what is read as it is
-pub empty_judged : (known : Outlook) (n : ℕ) (read : Progress) (inside : Bool) (l : List ℕ) → (length l == 0) ≡ true → line_judged known n read inside l ≡ Ok (read, inside)
-empty_judged known n read inside l e =
-    by_length (λ x. line_judged known n read inside x ≡ Ok (read, inside)) l (rw (empty_form inside, empty_at known n read.done read.open_function) refl) e
+pub empty_judged : (known : Outlook) (n : ℕ) (ls : List (List ℕ)) (read : Progress) (l : List ℕ) → (length l == 0) ≡ true → line_step known n ls read (form_in (is_inside read.current) l) ≡ Ok read
+empty_judged known n ls read l e =
+    by_length (λ x. line_step known n ls read (form_in (is_inside read.current) x) ≡ Ok read) l (rw (empty_form (is_inside read.current), empty_at known n ls read.done read.current) refl) e
 
 none_first : (n : ℕ) (f : Option ℕ) (later : Option ReadRefusal) → or_later n f later ≡ None → (f ≡ None) × (later ≡ None)
 none_first n None later e = (refl, e)

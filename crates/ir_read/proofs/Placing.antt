@@ -8,11 +8,11 @@ use Rattle.ir_read.specs.declared.position.Position.{Position}
 use Rattle.ir_read.specs.declared.position.Spot.{Spot}
 use Rattle.ir_read.specs.declared.position.Spot.TheVariants.{Between, Front, Behind, Cases}
 use Rattle.ir_read.specs.declared.progress.Done.{Done}
-use Rattle.ir_read.specs.declared.progress.Progress.{Progress}
 use Rattle.ir_read.specs.declared.refusal.ReadRefusal.{ReadRefusal}
 use Rattle.ir_read.specs.declared.refusal.ReadRefusal.TheVariants.{Misplaced}
 use Rattle.ir_read.specs.Answers.{◌>>=◌}
 use Rattle.ir_read.specs.Function.{after_line}
+use Rattle.ir_read.specs.Draft as draft
 
 -- where a line of a function stands, and what is open there
 abbrev pub Place : Type 0
@@ -29,7 +29,7 @@ abbrev pub Read : Type 0
 Read = Done
 
 abbrev pub Reading : Type 0
-Reading = Progress
+Reading = draft.Reading
 
 abbrev pub Known : Type 0
 Known = Outlook

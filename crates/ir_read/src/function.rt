@@ -1,10 +1,12 @@
 //! The lines of a function: which are outside the profile, and the position behind each.
 //!
-//! The entry point is `after_line`. A line that is both outside the profile and misplaced is outside the profile.
+//! The entry points are `after_line`, and `is_foreign_line` where positions do not matter any more. A line that is both outside the
+//! profile and misplaced is outside the profile.
 
 ghost use Rattle.std.specs.Prelude.{◌≡◌};
 ghost use Rattle.ir_read.specs.Answers.{Gives};
 ghost use Rattle.ir_read.specs.Function as function;
+ghost use Rattle.ir_read.specs.Opaque as opaque;
 
 use crate::ReadRefusal;
 use crate::names::Names;
@@ -75,5 +77,16 @@ pub(crate) fn after_line(
         Line::CasesEnd => at.after_cases(line),
         Line::Close => at.at_close(line),
         Line::Kept(_) | Line::Define { .. } => Err(ReadRefusal::NotALine { line }),
+    }
+}
+
+/// Whether a line of this form is outside the profile.
+pub(crate) fn is_foreign_line(names: &Names, at: Position, form: &Line) -> bool
+    ensures { result ≡ opaque.is_foreign_line names.now at form.now }
+{
+    match form {
+        Line::Stmt(stmt) => is_foreign(at, &stmt.op) || any_barred(names, stmt.args.as_slice()),
+        Line::Kept(_) | Line::Define { .. } => true,
+        _ => false,
     }
 }

@@ -5,7 +5,7 @@
 //!
 //! The text is gone through twice. The first pass finds lexical faults and takes the names that no operand may be, which may stand
 //! anywhere, and looks no further into the lines of functions; the second cuts and judges each line, with a small state of the
-//! function that is open. The time is near linear.
+//! function that is open. A function that is outside the profile is opaque: its lines are kept. The time is near linear.
 #![tactic(auto)]
 
 ghost use Rattle.std.specs.Prelude.{◌+◌, ◌<◌, ◌^◌, length};
@@ -15,6 +15,7 @@ ghost use Rattle.ir_read.specs.Draft.{draft_of};
 mod braces;
 mod forms;
 mod function;
+mod joined;
 mod laws;
 mod lines;
 mod names;
@@ -35,7 +36,8 @@ pub use refusal::{Limit, ReadRefusal};
 use std::alloc::Global;
 use survey::survey;
 
-/// The draft that a text is. The text has fewer than 2^32 - 1 bytes. Empty lines are dropped.
+/// The draft that a text is. The text has fewer than 2^32 - 1 bytes. Empty lines are dropped, but for those of opaque functions, which
+/// are kept as their lines are.
 ///
 /// Refusals, the first of these that holds:
 /// - `Lex`, the first line with a lexical fault, and its byte;

@@ -1,12 +1,14 @@
-//! `OpenFunction`: the function that is being read.
+//! `OpenFunction`: the function that is being read, while all its lines stand where they may; `Verdict`: what a line is in it.
 //!
 //! A header opens one, each line adds to it. A header whose numbered parameters are out of order is misplaced.
 
-ghost use Rattle.std.specs.Prelude.{◌≡◌, OnOk};
-ghost use Rattle.ir_read.specs.Answers.{Gives};
+ghost use Rattle.std.specs.Prelude.{◌≡◌, OnOk, IfOk, ℕ, List, Option, Result};
+ghost use Rattle.ir_read.specs.Answers.{Gives, Refuses};
 ghost use Rattle.ir_read.specs.Function as function;
-ghost use Rattle.ir_read.specs.Draft as draft;
+ghost use Rattle.ir_read.specs.Steps as steps;
+ghost use Rattle.ir_read.specs.declared.position.Position.{Position};
 ghost use Rattle.ir_read.specs.declared.progress.Done.{Done};
+ghost use Rattle.ir_read.specs.declared.refusal.ReadRefusal.{ReadRefusal};
 
 use crate::ReadRefusal;
 use crate::function::after_line;
@@ -27,6 +29,19 @@ pub(crate) struct OpenFunction {
     pub(crate) at: Position,
 }
 
+/// What a line is in a function of which all lines before stand where they may.
+#[derive(Clone, Copy)]
+pub(crate) enum Verdict {
+    /// It stands where it may.
+    Stands,
+    /// It is the brace that ends the function.
+    Ends,
+    /// It is misplaced.
+    Misplaced,
+    /// It is outside the profile.
+    Foreign,
+}
+
 impl OpenFunction {
     /// The function that a header opens.
     #[tactic(auto, unfolding(crate::specs::Function::opened_by))]
@@ -42,26 +57,52 @@ impl OpenFunction {
         })
     }
 
-    /// Takes a line of the function, if it may stand here; answers whether it is the brace that closes the function.
-    #[tactic(auto, unfolding(crate::specs::Draft::line_inside))]
+    /// Takes a line of the function, where it has a form.
+    #[tactic(auto, unfolding(crate::specs::Steps::sound_step))]
     pub(crate) fn take(
         &mut self,
         known: &Outlook,
         line: u32,
-        form: Line,
-    ) -> Result<bool, ReadRefusal>
-        ensures { (done : Done) → Gives (draft.taken done self.new) result (draft.line_inside known.now line done self.old form) }
+        form: Option<Line>,
+    ) -> Result<Verdict, ReadRefusal>
+        ensures { (done : Done) → (name : Option (List ℕ)) → Gives (steps.taken line done name self.new) result (steps.sound_step known.now line done name self.old form) }
     {
+        let Some(form) = form else {
+            return Ok(Verdict::Foreign);
+        };
         match after_line(&known.names, line, self.at, &form) {
-            Err(refusal) => Err(refusal),
-            Ok(at) => match form {
-                Line::Empty => Ok(false),
-                Line::Close => Ok(true),
-                _ => {
-                    self.add(line, form, at)?;
-                    Ok(false)
-                }
-            },
+            Ok(at) => Ok(self.place(line, form, at)?),
+            Err(refusal) => self.refuse(line, &form, refusal),
+        }
+    }
+
+    /// Takes a line that stands where it may.
+    fn place(&mut self, line: u32, form: Line, at: Position) -> Result<Verdict, AllocError>
+        ensures { (done : Done) → (name : Option (List ℕ)) → IfOk result (λ verdict. steps.taken line done name self.new verdict ≡ steps.added line done name self.old form at) }
+    {
+        match form {
+            Line::Empty => Ok(Verdict::Stands),
+            Line::Close => Ok(Verdict::Ends),
+            _ => {
+                self.add(line, form, at)?;
+                Ok(Verdict::Stands)
+            }
+        }
+    }
+
+    /// Looks at a line that may not stand where it does: it is outside the profile or misplaced.
+    fn refuse(
+        &mut self,
+        line: u32,
+        form: &Line,
+        refusal: ReadRefusal,
+    ) -> Result<Verdict, ReadRefusal>
+        ensures { (done : Done) → (name : Option (List ℕ)) → (said : Result Position ReadRefusal) → Refuses refusal said → Gives (steps.taken line done name self.new) result (steps.judged line done name self.old form.now said) }
+    {
+        match refusal {
+            ReadRefusal::OutOfMemory => Err(ReadRefusal::OutOfMemory),
+            ReadRefusal::Misplaced { .. } => self.misplace(line, form),
+            _ => Ok(Verdict::Foreign),
         }
     }
 
@@ -73,5 +114,16 @@ impl OpenFunction {
         self.body.push(Numbered { line, form })?;
         self.at = at;
         Ok(())
+    }
+
+    /// Goes on behind a line that is misplaced, unless it is the brace.
+    fn misplace(&mut self, line: u32, form: &Line) -> Result<Verdict, ReadRefusal>
+        ensures { (done : Done) → (name : Option (List ℕ)) → Gives (steps.taken line done name self.new) result (steps.misplaced line done name self.old form.now) }
+    {
+        if let Line::Close = form {
+            return Err(ReadRefusal::Misplaced { line });
+        }
+        self.at = self.at.passed_over(form)?;
+        Ok(Verdict::Misplaced)
     }
 }

@@ -1,16 +1,18 @@
 //! `Position`: where in a function the next line stands.
 //!
-//! Each function gives the position behind a line of one kind, or refuses that line as misplaced. A position is a few counts and
+//! Each function gives the position behind a line of one kind, or refuses that line as misplaced; `passed_over` goes on behind a line
+//! that may be misplaced, and counts blocks alone. A position is a few counts and
 //! what is open, so nothing here takes memory; a count that would pass its last value is answered as want of it.
 
 ghost use Rattle.std.specs.Prelude.{◌≡◌, ◌+◌, Some, IfOk};
 ghost use Rattle.ir_types.specs.Formed as formed;
 ghost use Rattle.ir_read.specs.Answers.{Gives};
+ghost use Rattle.ir_read.specs.Opaque as opaque;
 ghost use Rattle.ir_read.specs.Position as position;
 
 use crate::ReadRefusal;
 use crate::numbers::{after_name, after_result, one_more};
-use ir_line::Stmt;
+use ir_line::{Line, Stmt};
 use ir_types::Op;
 use std::alloc::AllocError;
 
@@ -205,6 +207,66 @@ impl Position {
             Ok(self)
         } else {
             Err(ReadRefusal::Misplaced { line })
+        }
+    }
+
+    /// Behind a label, whether or not it may stand here.
+    #[tactic(auto, unfolding(crate::specs::Opaque::passed_label))]
+    fn passed_label(self) -> Result<Position, AllocError>
+        ensures { IfOk result (λ after. after ≡ opaque.passed_label self) }
+    {
+        if self.spot.is_cases() {
+            return Ok(self);
+        }
+        Ok(Position {
+            next: self.next,
+            insts: self.insts,
+            blocks: one_more(self.blocks)?,
+            spot: Spot::Front,
+        })
+    }
+
+    /// Behind an instruction, the same.
+    #[tactic(auto, unfolding(crate::specs::Opaque::passed_stmt))]
+    fn passed_stmt(self, op: &Op) -> Result<Position, AllocError>
+        ensures { IfOk result (λ after. after ≡ opaque.passed_stmt self op.now) }
+    {
+        if self.spot.is_cases() {
+            return Ok(self);
+        }
+        let block = self.opened()?;
+        Ok(Position {
+            next: self.next,
+            insts: self.insts,
+            blocks: block.blocks,
+            spot: spot_after(op),
+        })
+    }
+
+    /// Behind the end of a `switch`, the same.
+    #[tactic(auto, unfolding(crate::specs::Opaque::passed_end))]
+    fn passed_end(self) -> Position
+        ensures { result ≡ opaque.passed_end self }
+    {
+        if self.spot.is_cases() {
+            Position {
+                spot: Spot::Between,
+                ..self
+            }
+        } else {
+            self
+        }
+    }
+
+    /// Behind a line of this form, whether or not it may stand here.
+    pub(crate) fn passed_over(self, form: &Line) -> Result<Position, AllocError>
+        ensures { IfOk result (λ after. after ≡ opaque.passed_over self form.now) }
+    {
+        match form {
+            Line::Label(_) => self.passed_label(),
+            Line::Stmt(stmt) => self.passed_stmt(&stmt.op),
+            Line::CasesEnd => Ok(self.passed_end()),
+            _ => Ok(self),
         }
     }
 }

@@ -139,107 +139,9 @@ fn lines_outside_the_profile(rt: HostRuntime) {
         no_line(b"hello", 1),
         no_line(b"\n}\n", 2),
         no_line(b"  ret void\n", 1),
-        no_line(b"define void @a() {\n  call void @k()\n  ret void\n}\n", 2),
-        no_line(
-            b"define void @a() {\n  %x = call i8 @k()\n  ret void\n}\n",
-            2,
-        ),
-        no_line(b"define void @a() {\n  fence seq_cst\n  ret void\n}\n", 2),
-        no_line(b"define void @a() {\n  ret void\n}, !x\n", 3),
-        no_line(
-            b"define void @a() {\ndefine void @b() {\n  ret void\n}\n",
-            2,
-        ),
-        // headers: without its brace, and outside the profile
+        no_line(b"define void @a() {\n  fence seq_cst\n}\n}\n", 4),
+        // a header without its brace
         no_line(b"define void @a()\n{\n  ret void\n}\n", 1),
-        no_line(b"define void @a(...) {\n  ret void\n}\n", 1),
-        no_line(b"define void @a(ptr byval(i8) %p) {\n  ret void\n}\n", 1),
-        // under other pointers, before and behind
-        no_line(
-            b"target datalayout = \"p:32:32\"\ndefine void @a() {\n  ret void\n}\n",
-            2,
-        ),
-        no_line(
-            b"define void @a() {\n  ret void\n}\ntarget datalayout = \"p:32:32\"\n",
-            1,
-        ),
-        // an alloca outside the first block: labelled, unlabelled
-        no_line(
-            b"define void @a() {\n  br label %b\nb:\n  %x = alloca i8\n  ret void\n}\n",
-            4,
-        ),
-        no_line(
-            b"define void @a() {\n  br label %b\n  %x = alloca i8\n  ret void\n}\n",
-            3,
-        ),
-        // an operand that names a function or a symbol that is no global, before and behind
-        no_line(
-            b"define void @a() {\n  store i8 1, ptr @a\n  ret void\n}\n",
-            2,
-        ),
-        no_line(
-            b"declare void @k()\ndefine void @a() {\n  store i8 1, ptr @k\n  ret void\n}\n",
-            3,
-        ),
-        no_line(
-            b"define void @a() {\n  store i8 1, ptr @k\n  ret void\n}\ndeclare void @k()\n",
-            2,
-        ),
-        no_line(
-            b"define void @a() {\n  store i8 1, ptr @k\n  ret void\n}\ndefine void @k() {\n  ret void\n}\n",
-            2,
-        ),
-        no_line(
-            b"define void @a() {\n  store ptr @k, ptr @g\n  ret void\n}\n@k = alias i8, ptr @g\n",
-            2,
-        ),
-        no_line(
-            b"define void @a() {\n  %x = phi ptr [ @g, %b ], [ @k, %c ]\n  ret void\n}\n@k = ifunc i8, ptr @g\n",
-            2,
-        ),
-        no_line(
-            b"define void @a() {\n  store i8 1, ptr @g\n  ret void\n}\n@g = extern_weak global i8\n",
-            2,
-        ),
-        no_line(
-            b"define void @a() {\n  store i8 1, ptr @g\n  ret void\n}\n@g = addrspace(1) global i8 0\n",
-            2,
-        ),
-        // both names of a header that has two
-        no_line(
-            b"define void @a() {\n  store i8 1, ptr @p\n  ret void\n}\ndefine @p void @b() {\n  ret void\n}\n",
-            2,
-        ),
-        no_line(
-            b"define void @a() {\n  store i8 1, ptr @b\n  ret void\n}\ndefine @p void @b() {\n  ret void\n}\n",
-            2,
-        ),
-        // the names behind a line that is none count too
-        no_line(
-            b"define void @a() {\n  store i8 1, ptr @k\n  ret void\n}\nhello\ndeclare void @k()\n",
-            2,
-        ),
-        // both outside the profile and misplaced
-        no_line(
-            b"define void @a() {\n  br label %b\nb:\n  switch i8 1, label %b [\n  %x = alloca i8\n  ]\n}\n",
-            5,
-        ),
-        no_line(
-            b"define void @a() {\n  switch i8 1, label %b [\n  store i8 1, ptr @a\n  ]\n}\n",
-            3,
-        ),
-        no_line(
-            b"define void @a() {\n  %x = add i8 1, 2\n  %y = phi ptr [ @a, %b ]\n  ret void\n}\n",
-            3,
-        ),
-        no_line(
-            b"target datalayout = \"p:32:32\"\ndefine void @a(i8 %1) {\n  ret void\n}\n",
-            2,
-        ),
-        no_line(
-            b"define void @a() {\n  br label %b\n  %9 = alloca i8\n  ret void\n}\n",
-            3,
-        ),
     ];
     rows_hold(&rt, rt.alloc(), &rows);
 }
@@ -386,6 +288,48 @@ fn misplaced_comes_before_limits(rt: HostRuntime) -> Result<(), Fail> {
         Some(ReadRefusal::Misplaced { line })
     );
     Ok(())
+}
+
+#[test]
+fn opaque_functions_pass_no_limit(rt: HostRuntime) -> Result<(), Fail> {
+    let mut text = Vec::new(rt.alloc());
+    text.extend_from_slice(b"define void @f(ptr %p) {\n")?;
+    for _ in 0..100_001 {
+        text.extend_from_slice(b"b:\n  store i8 1, ptr %p\n  br label %b\n")?;
+    }
+    text.extend_from_slice(b"  fence seq_cst\n}\n")?;
+    assert_eq!(&rt; refusal_of(rt.alloc(), text.as_slice()), None);
+    Ok(())
+}
+
+#[test]
+fn opaque_functions_are_items(rt: HostRuntime) {
+    let text =
+        b"@g = global i8 0\n\ndefine void @a() {\r\n\n  fence seq_cst ; x\r\n}\ndefine void @\"b c\"() {\n}";
+    let first = b"define void @a() {\n\n  fence seq_cst ; x\n}".as_slice();
+    let second = b"define void @\"b c\"() {\n}".as_slice();
+    match read(rt.alloc(), text.as_slice()) {
+        Ok(draft) => match draft.items.as_slice() {
+            [
+                DraftItem::Kept { line: 1, .. },
+                DraftItem::Opaque {
+                    line: 3,
+                    name: Some(name),
+                    text: one,
+                },
+                DraftItem::Opaque {
+                    line: 7,
+                    name: None,
+                    text: other,
+                },
+            ] => {
+                assert!(&rt; name.as_slice() == b"a".as_slice());
+                assert!(&rt; one.as_slice() == first && other.as_slice() == second);
+            }
+            _ => panic!(&rt; "other items"),
+        },
+        Err(_) => panic!(&rt; "no draft"),
+    }
 }
 
 /// Whether the lines of a body are those of the test below.

@@ -2,17 +2,17 @@
 use Rattle.std.proofs.Common.{◌≡◌, ◌+◌, ◌≤◌, length, None}
 use Rattle.ir_read.specs.Lines.{lines_of}
 use Rattle.ir_read.specs.Faults.{first_fault}
-use Rattle.ir_read.specs.Forms.{forms_from, forms_of}
-use Rattle.ir_read.specs.Draft.{read_from, between, nothing_done}
+use Rattle.ir_read.specs.Draft.{nothing_done}
+use Rattle.ir_read.specs.Steps.{steps_from, outside}
 use Rattle.ir_read.proofs.reader.judge.Given as goal
 
-abbrev pub invariant-loop-rest : goal.invariant-loop-rest
-invariant-loop-rest l = record {
+abbrev pub invariant-loop-from : goal.invariant-loop-from
+invariant-loop-from l = record {
   within : length l.rest ≤ length l.bytes;
   few : l.number + length l.rest ≤ 1 + length l.bytes;
   sound : first_fault l.number (lines_of l.rest) ≡ None;
-  whole : read_from l.known l.number l.done (forms_from l.inside (lines_of l.rest)) ≡ read_from l.known 1 (between nothing_done) (forms_of (lines_of l.bytes));
+  whole : steps_from l.known l.number l.done (lines_of l.from) (lines_of l.rest) ≡ steps_from l.known 1 (outside nothing_done) (lines_of l.bytes) (lines_of l.bytes);
 }
 
-abbrev pub decreases-loop-rest : goal.decreases-loop-rest
-decreases-loop-rest l = length l.rest
+abbrev pub decreases-loop-from : goal.decreases-loop-from
+decreases-loop-from l = length l.rest
