@@ -85,12 +85,7 @@ impl Done {
 
     /// Adds an opaque function.
     #[tactic(auto, unfolding(crate::specs::Draft::with_opaque))]
-    fn add_opaque(
-        &mut self,
-        line: u32,
-        name: Option<Bytes>,
-        text: Bytes,
-    ) -> Result<(), AllocError>
+    fn add_opaque(&mut self, line: u32, name: Option<Bytes>, text: Bytes) -> Result<(), AllocError>
         ensures { OnOk result (self.new ≡ draft.with_opaque self.old line name text) }
     {
         self.items.push(DraftItem::Opaque { line, name, text })?;
@@ -219,7 +214,10 @@ impl Progress {
     fn close(&mut self) -> Result<(), AllocError>
         ensures { (name : Option (List ℕ)) → (o : OpenFunction) → self.old.current ≡ current.Sound name o → OnOk result (self.new ≡ steps.outside (draft.closed self.old.done o)) }
     {
-        if let Current::Sound { name: _, function } = mem::replace(&mut self.current, Current::Outside) {
+        if let Current::Sound { name: _, function } = mem::replace(
+            &mut self.current,
+            Current::Outside,
+        ) {
             self.done.add_function(function)?;
         }
         Ok(())
@@ -229,7 +227,10 @@ impl Progress {
     fn turn_faulty(&mut self, line: u32)
         ensures { (name : Option (List ℕ)) → (o : OpenFunction) → self.old.current ≡ current.Sound name o → self.new ≡ steps.faulty self.old.done (steps.began o.line name) o.at line }
     {
-        if let Current::Sound { name, function } = mem::replace(&mut self.current, Current::Outside) {
+        if let Current::Sound { name, function } = mem::replace(
+            &mut self.current,
+            Current::Outside,
+        ) {
             self.current = Current::Misplaced(Faulty {
                 origin: Origin {
                     line: function.line,

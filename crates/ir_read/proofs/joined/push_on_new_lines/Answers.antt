@@ -1,5 +1,5 @@
 -- One line more is written, and one fewer is left.
-use Rattle.std.proofs.Common.{◌≡◌, ◌++◌, ◌-◌, ◌∙◌, ap, take}
+use Rattle.std.proofs.Common.{◌++◌, ◌-◌, ◌∙◌, ap, take}
 use Rattle.ir_read.specs.Lines.{lines_of}
 use Rattle.ir_read.specs.Opaque.{on_new_lines}
 use Rattle.ir_read.proofs.Joining.{one_pushed}
