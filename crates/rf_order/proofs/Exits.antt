@@ -1,12 +1,12 @@
 -- A block that goes on to another leaves a state in which that one is entered.
-use Rattle.std.proofs.Common.{◌≡◌, refl, sym, ap, ◌∙◌, subst, ℕ, zero, suc, ◌+◌, ◌<◌, ◌≤◌, ◌⊎◌, inl, inr, Bool, true, false, not, ◌&&◌, ◌||◌, cond, Option, None, Some, List, [], ◌∷◌, ◌++◌, length, length-append, map, nat_eq, slice_get, arith}
+use Rattle.std.proofs.Common.{◌≡◌, refl, sym, ap, ◌∙◌, subst, ℕ, ◌+◌, ◌≤◌, ◌⊎◌, inl, inr, Bool, true, false, not, ◌&&◌, ◌||◌, cond, None, Some, List, [], ◌∷◌, ◌++◌, length, length-append, map, slice_get, arith}
 use Rattle.ir_types.specs.declared.id.Id.{Id}
 use Rattle.ir_types.specs.declared.ty.Ty.{Ty}
 use Rattle.ir_types.specs.declared.ty.Ty.TheVariants.{Void}
 use Rattle.ir_types.specs.declared.opd.Opd.{Opd}
 use Rattle.ir_types.specs.declared.opd.Opd.TheVariants.{Val, Lit, Sym}
 use Rattle.ir_types.specs.declared.op.Op.{Op}
-use Rattle.ir_types.specs.declared.op.Op.TheVariants.{Alloca, Ret, Br, CondBr, Switch, Unreachable}
+use Rattle.ir_types.specs.declared.op.Op.TheVariants.{Alloca, Ret, Br, CondBr, Switch}
 use Rattle.ir_types.specs.declared.inst.Inst.{Inst}
 use Rattle.ir_types.specs.declared.func.Block.{Block}
 use Rattle.ir_types.specs.declared.func.Func.{Func}
@@ -16,18 +16,18 @@ use Rattle.ir_types.specs.Available.{defines, insts_at, stands_on}
 use Rattle.ir_types.specs.Formed.{given_ty, value_ty, opd_ty, is_alloca, IsFormedInst}
 use Rattle.ir_types.proofs.Among.{same_is}
 use Rattle.ir_model.specs.declared.value.Value.{Value}
-use Rattle.ir_model.specs.declared.value.Value.TheVariants.{Lane as LaneValue, Row as RowValue, Ptr as PtrValue}
-use Rattle.ir_model.specs.Values.{Lane, same_id, pointer_of, value_of}
+use Rattle.ir_model.specs.declared.value.Value.TheVariants.{Lane as LaneValue}
+use Rattle.ir_model.specs.Values.{same_id, value_of}
 use Rattle.ir_model.specs.Step.{State, Went, Lost, Halts, On, then_go, Reached, Calls, step}
-use Rattle.ir_model.specs.Run.{Exit, Leaves, To, exit_with, is_terminator, leave, run_insts, types_of}
+use Rattle.ir_model.specs.Run.{Exit, To, exit_with, is_terminator, leave, run_insts, types_of}
 use Rattle.ir_model.specs.Shapes.{HasShape, CallsKeepShapes}
 use Rattle.ir_model.proofs.Ids.{value_type}
 use Rattle.ir_model.proofs.Walked.{stands_enter, insts_found}
 use Rattle.ir_model.proofs.Shaped.{gives_nothing}
 use Rattle.vx_view.specs.Answers.{found}
-use Rattle.vx_view.specs.Conflicts.{Kind, Allocated, Unknown, value_kind, kind_of, never_meet, same_root}
+use Rattle.vx_view.specs.Conflicts.{Allocated, Unknown, value_kind, kind_of}
 use Rattle.rf_order.specs.Rows.{steps}
-use Rattle.rf_order.specs.Ready.{Known, next, MayRunAll, has_kind, NamesOne, NameOthers, is_known, RootsApart, IsReady}
+use Rattle.rf_order.specs.Ready.{Known, next, MayRunAll, has_kind, is_known, IsReady}
 use Rattle.rf_order.specs.Blocks.{IsEntered, IsCut, ExitsAreEntered}
 use Rattle.rf_order.proofs.Shapes.{never_kinds, step_ready}
 use Rattle.rf_order.proofs.Refined.{insts_append}
