@@ -1,18 +1,10 @@
 -- Where the form of an address leads: in a ready state a pointer is poison, or its root with the symbol and the constant added.
-use Rattle.std.proofs.Common.{◌≡◌, refl, sym, ap, ◌∙◌, subst, ℕ, ℤ, zero, suc, pos, negsuc, neg_ℤ, ◌+ℤ◌, ◌-ℤ◌, ◌*ℤ◌, ◌+◌, ◌*◌, ◌/◌, ◌%◌, ◌^◌, ◌<◌, ◌≤◌, ◌⊎◌, inl, inr, Bool, true, false, not, ◌&&◌, ◌||◌, cond, Option, None, Some, List, [], ◌∷◌, ◌++◌, length, map, nat_eq, nat_le, nat_lt, int_le, slice_get, option_map, option_and_then, FitsSigned, arith}
+use Rattle.std.proofs.Common.{◌≡◌, refl, sym, ap, ◌∙◌, subst, ℕ, ℤ, zero, suc, pos, ◌+ℤ◌, ◌*ℤ◌, ◌*◌, ◌/◌, ◌%◌, ◌^◌, ◌<◌, ◌⊎◌, inl, inr, Bool, true, false, ◌||◌, cond, Option, None, Some, List, [], ◌∷◌, length, map, nat_le, nat_lt, option_map, option_and_then, arith}
 use Rattle.std.specs.Int.{w64, int_wrap}
-use Rattle.std.specs.List.{AllZip, All}
-use Rattle.std.specs.Int.Bits.{bit_or, bit_and, or_add_and}
-use Rattle.std.proofs.lemmas.Int.{int_wrap_fits, int_wrap-add_left, int_wrap-add_right, SFits-int_wrap, ints}
-use Rattle.std.proofs.lemmas.Bool.Decides.{nat_tests}
+use Rattle.std.specs.List.{AllZip}
+use Rattle.std.proofs.lemmas.Int.{int_wrap-add_left, int_wrap-add_right, ints}
 use Rattle.std.proofs.Math.Nat.{mod-eq_of_lt}
-use Rattle.vx_num.specs.declared.operations.BinOp.{BinOp}
-use Rattle.vx_num.specs.declared.operations.BinOp.TheVariants.{Add, Or}
-use Rattle.vx_num.specs.declared.operations.Flags.{Flags}
 use Rattle.vx_num.specs.Width.{signed, IsLane}
-use Rattle.vx_num.specs.Flagged.{keeps, no_wrap, apart}
-use Rattle.vx_num.specs.Sums.{add_of}
-use Rattle.vx_num.specs.Bin.{lane_of, or_of}
 use Rattle.vx_num.specs.Advance.{advance_of}
 use Rattle.ir_types.specs.declared.id.Id.{Id}
 use Rattle.ir_types.specs.declared.ty.Ty.{Ty}
@@ -22,11 +14,11 @@ use Rattle.ir_types.specs.declared.ty.Elem.TheVariants.{One, Array}
 use Rattle.ir_types.specs.declared.opd.Opd.{Opd}
 use Rattle.ir_types.specs.declared.opd.Opd.TheVariants.{Val, Lit, Sym}
 use Rattle.ir_types.specs.declared.op.Op.{Op}
-use Rattle.ir_types.specs.declared.op.Op.TheVariants.{Bin, Gep, Load, Store}
+use Rattle.ir_types.specs.declared.op.Op.TheVariants.{Gep}
 use Rattle.ir_types.specs.declared.inst.Inst.{Inst}
 use Rattle.ir_types.specs.declared.func.Func.{Func}
 use Rattle.ir_types.specs.declared.module.Module.{Module}
-use Rattle.ir_types.specs.Typed.{is_width, lane_width, IsLiteral, IsStep, HasTwoIndices, IsTyped}
+use Rattle.ir_types.specs.Typed.{is_width, lane_width, IsStep, HasTwoIndices, IsTyped}
 use Rattle.ir_types.specs.Formed.{opd_ty, IsOpd, IsFormed}
 use Rattle.ir_types.proofs.Formed.{Every, every_of_all, IsValued, typed_valued}
 use Rattle.ir_types.proofs.Among.{same_is, same_itself}
@@ -34,20 +26,18 @@ use Rattle.ir_model.specs.declared.value.Value.{Value}
 use Rattle.ir_model.specs.declared.value.Value.TheVariants.{Lane as LaneValue, Row as RowValue, Ptr as PtrValue}
 use Rattle.ir_model.specs.Values.{Lane, Pointer, Env, pointer_of, same_id, literal_value, value_of, type_of}
 use Rattle.ir_model.specs.Sizes.{bytes_in, elem_size}
-use Rattle.ir_model.specs.Operations.{low, narrow, paired, bin_lane, bin_value}
-use Rattle.ir_model.specs.Addresses.{stepped, walked, address_value}
+use Rattle.ir_model.specs.Operations.{narrow}
+use Rattle.ir_model.specs.Addresses.{stepped, walked}
 use Rattle.ir_model.specs.Step.{State}
 use Rattle.ir_model.specs.Run.{is_phi, types_of}
 use Rattle.ir_model.specs.Shapes.{HasShape}
 use Rattle.ir_model.proofs.Acts.{same_types}
-use Rattle.ir_model.proofs.Indices.{wrap-low, wrap-signed, wrap-factor}
-use Rattle.ir_model.proofs.Ids.{types_agree}
 use Rattle.ir_model.proofs.Sound.{params_formed}
 use Rattle.vx_view.specs.Answers.{find}
-use Rattle.vx_view.specs.Addresses.{Symbol, Offset, Form, scales_of, beside_symbol, with_symbol, with_lane, with_index, with_indices, Led, led_op, led_by, led_back, Summand, Number, Poison, Value as ValueSummand, Other, summand_of, summand, plus, summed, is_sum, is_wide, summed_by, sum_back, back_from, symbol_back, or_stay, Walked, pointers, symbols, form_of, start, form_in}
+use Rattle.vx_view.specs.Addresses.{Symbol, Offset, scales_of, beside_symbol, with_lane, with_index, with_indices, Led, led_op, led_by, led_back, or_stay, Walked, pointers}
 use Rattle.rf_order.specs.Steps.{uses}
-use Rattle.rf_order.specs.Ready.{Known, IsIn, IsStatement, formula, has_formula, IsComputed, is_known, IsReady}
-use Rattle.rf_order.proofs.Shapes.{OpdShape, global_there, opd_shape, OpdsShape, opds_shape}
+use Rattle.rf_order.specs.Ready.{Known, IsIn, IsStatement, formula, has_formula, is_known, IsReady}
+use Rattle.rf_order.proofs.Shapes.{global_there, OpdsShape, opds_shape}
 
 true_false : true ≡ false → ⊥
 true_false e = cc

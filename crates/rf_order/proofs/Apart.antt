@@ -1,8 +1,8 @@
 -- Accesses that do not conflict are apart, wherever the state is ready.
-use Rattle.std.proofs.Common.{◌≡◌, refl, sym, ap, ◌∙◌, subst, ℕ, ℤ, zero, suc, pos, negsuc, neg_ℤ, ◌+ℤ◌, ◌-ℤ◌, ◌*ℤ◌, ◌+◌, ◌*◌, ◌/◌, ◌%◌, ◌^◌, ◌<◌, ◌≤◌, ◌⊎◌, inl, inr, Bool, true, false, not, ◌&&◌, ◌||◌, cond, Option, None, Some, List, [], ◌∷◌, length, map, nat_eq, int_le, FitsSigned, arith}
+use Rattle.std.proofs.Common.{◌≡◌, refl, sym, ap, ◌∙◌, subst, ℕ, ℤ, pos, neg_ℤ, ◌+ℤ◌, ◌-ℤ◌, ◌+◌, ◌*◌, ◌≤◌, ◌⊎◌, inl, inr, Bool, true, false, not, ◌&&◌, ◌||◌, cond, Option, None, Some, List, [], ◌∷◌, length, map, nat_eq, int_le, FitsSigned, arith}
 use Rattle.std.specs.Int.{w64, int_wrap}
 use Rattle.std.specs.List.{AllZip}
-use Rattle.std.proofs.lemmas.Int.{int_wrap_fits, int_wrap-add_left, int_wrap-add_right, SFits-int_wrap, ints}
+use Rattle.std.proofs.lemmas.Int.{int_wrap_fits, int_wrap-add_left, SFits-int_wrap, ints}
 use Rattle.std.proofs.lemmas.Bool.Decides.{nat_tests}
 use Rattle.ir_types.specs.declared.id.Id.{Id}
 use Rattle.ir_types.specs.declared.ty.Ty.{Ty}
@@ -21,20 +21,20 @@ use Rattle.ir_types.proofs.Formed.{Every, IsValued, typed_valued}
 use Rattle.ir_model.proofs.Sound.{params_formed}
 use Rattle.ir_model.specs.declared.value.Value.{Value}
 use Rattle.ir_model.specs.declared.value.Value.TheVariants.{Lane as LaneValue, Row as RowValue, Ptr as PtrValue}
-use Rattle.ir_model.specs.Values.{Lane, Pointer, Env, pointer_of, literal_value, value_of, type_of}
+use Rattle.ir_model.specs.Values.{Lane, Pointer, pointer_of, literal_value, value_of, type_of}
 use Rattle.ir_model.specs.Sizes.{bytes_in, size_of}
 use Rattle.ir_model.specs.Step.{State}
 use Rattle.ir_model.specs.Run.{types_of}
 use Rattle.ir_model.specs.Shapes.{HasShape}
 use Rattle.ir_model.proofs.Acts.{same_types}
-use Rattle.vx_view.specs.Addresses.{Symbol, Offset, Form, Walked, pointers, symbols, form_of, start, form_in}
+use Rattle.vx_view.specs.Addresses.{Symbol, Form, pointers, start, form_in}
 use Rattle.vx_view.specs.Conflicts.{Access, bytes_of, access_by, access_of, kind_of, never_meet, same_root, same_symbol, is_past, is_apart, meet}
 use Rattle.rf_order.specs.Swaps.{Touch, stored_size, touch_of, AreApart, KeepApart}
 use Rattle.rf_order.specs.Steps.{uses}
-use Rattle.rf_order.specs.Ready.{Known, IsStatement, MayRun, is_known, NameOthers, IsReady}
+use Rattle.rf_order.specs.Ready.{Known, IsStatement, is_known, IsReady}
 use Rattle.rf_order.proofs.Shapes.{OpdsShape}
-use Rattle.rf_order.proofs.Addresses.{symbol_value, led_to, two_opds, leads, KnownSymbol, known_opd, uses_here, uses_later, shapes_of, LedTo, led_pointers}
-use Rattle.rf_order.proofs.Sums.{on_with, sum_walk}
+use Rattle.rf_order.proofs.Addresses.{symbol_value, led_to, two_opds, known_opd, uses_here, uses_later, shapes_of, led_pointers}
+use Rattle.rf_order.proofs.Sums.{sum_walk}
 
 true_false : true ≡ false → ⊥
 true_false e = cc
@@ -257,29 +257,33 @@ module _ (m : Module) (f : Func) (formed : IsFormed m) (block : List Inst) (k : 
         let typed : (is_stored i.ty ≡ true) × IsAlign align × (map (opd_ty m f) i.opds ≡ Some Ptr ∷ []) = subst (λ op. IsTyped f.ret op i.ty (map (opd_ty m f) i.opds)) is st.typed in
         let os = one_opd i.opds Ptr (same_types (map (type_of types) i.opds) (Ptr ∷ []) (sym shapes.types ∙ typed.2)) in
         let sh : AllZip (HasShape (length s.memory)) (type_of types os.0 ∷ []) (value_of s.env os.0 ∷ []) = subst (λ os. AllZip (HasShape (length s.memory)) (map (type_of types) os) (map (value_of s.env) os)) os.1 shapes.shapes in
-        inr (record { pointer = os.0; size = bytes_of i.ty; writes = false },
-        record {
-          access = ap (λ op. access_by op i.ty i.opds) is ∙ ap (access_by (Load align) i.ty) os.1;
-          known = known_opd m f formed block k s ready (os.0 ∷ []) os.0 (λ z u. there z (ap (uses z) os.1 ∙ u)) (λ z d. uses_here m f formed block k s ready os.0 [] z d) (valued (os.0 ∷ []) os.1).0;
-          fits = pointer_fits (length s.memory) (value_of s.env os.0) (subst (λ t. HasShape (length s.memory) t (value_of s.env os.0)) os.2 sh.0);
-          touch = ap (λ op. touch_of op i.ty (map (value_of s.env) i.opds)) is ∙ ap (λ os. touch_of (Load align) i.ty (map (value_of s.env) os)) os.1
-              ∙ ap (λ n. Some (record { pointer = pointer_of (value_of s.env os.0); size = n; writes = false })) (sym (size_is i.ty));
-        })
+        inr (
+          record { pointer = os.0; size = bytes_of i.ty; writes = false },
+          record {
+            access = ap (λ op. access_by op i.ty i.opds) is ∙ ap (access_by (Load align) i.ty) os.1;
+            known = known_opd m f formed block k s ready (os.0 ∷ []) os.0 (λ z u. there z (ap (uses z) os.1 ∙ u)) (λ z d. uses_here m f formed block k s ready os.0 [] z d) (valued (os.0 ∷ []) os.1).0;
+            fits = pointer_fits (length s.memory) (value_of s.env os.0) (subst (λ t. HasShape (length s.memory) t (value_of s.env os.0)) os.2 sh.0);
+            touch = ap (λ op. touch_of op i.ty (map (value_of s.env) i.opds)) is ∙ ap (λ os. touch_of (Load align) i.ty (map (value_of s.env) os)) os.1
+                ∙ ap (λ n. Some (record { pointer = pointer_of (value_of s.env os.0); size = n; writes = false })) (sym (size_is i.ty));
+          },
+        )
     by_op (Store align) is =
         let typed : (is_stored i.ty ≡ true) × IsAlign align × (map (opd_ty m f) i.opds ≡ Some i.ty ∷ Some Ptr ∷ []) = subst (λ op. IsTyped f.ret op i.ty (map (opd_ty m f) i.opds)) is st.typed in
         let os = two_opds (type_of types) i.opds i.ty Ptr (same_types (map (type_of types) i.opds) (i.ty ∷ Ptr ∷ []) (sym shapes.types ∙ typed.2)) in
         let sh : AllZip (HasShape (length s.memory)) (type_of types os.0 ∷ type_of types os.1 ∷ []) (value_of s.env os.0 ∷ value_of s.env os.1 ∷ []) =
-            subst (λ os. AllZip (HasShape (length s.memory)) (map (type_of types) os) (map (value_of s.env) os)) os.2 shapes.shapes in
-        inr (record { pointer = os.1; size = bytes_of i.ty; writes = true },
-        record {
-          access = ap (λ op. access_by op i.ty i.opds) is ∙ ap (access_by (Store align) i.ty) os.2;
-          known = known_opd m f formed block k s ready (os.0 ∷ os.1 ∷ []) os.1 (λ z u. there z (ap (uses z) os.2 ∙ u))
-              (λ z d. uses_later m f formed block k s ready os.0 (os.1 ∷ []) z (uses_here m f formed block k s ready os.1 [] z d)) (valued (os.0 ∷ os.1 ∷ []) os.2).1.0;
-          fits = pointer_fits (length s.memory) (value_of s.env os.1) (subst (λ t. HasShape (length s.memory) t (value_of s.env os.1)) os.4 sh.1.0);
-          touch = ap (λ op. touch_of op i.ty (map (value_of s.env) i.opds)) is ∙ ap (λ os. touch_of (Store align) i.ty (map (value_of s.env) os)) os.2
-              ∙ ap (λ n. Some (record { pointer = pointer_of (value_of s.env os.1); size = n; writes = true }))
-              (stored_is (length s.memory) i.ty (value_of s.env os.0) (subst (λ t. HasShape (length s.memory) t (value_of s.env os.0)) os.3 sh.0));
-        })
+        subst (λ os. AllZip (HasShape (length s.memory)) (map (type_of types) os) (map (value_of s.env) os)) os.2 shapes.shapes in
+        inr (
+          record { pointer = os.1; size = bytes_of i.ty; writes = true },
+          record {
+            access = ap (λ op. access_by op i.ty i.opds) is ∙ ap (access_by (Store align) i.ty) os.2;
+            known = known_opd m f formed block k s ready (os.0 ∷ os.1 ∷ []) os.1 (λ z u. there z (ap (uses z) os.2 ∙ u))
+                (λ z d. uses_later m f formed block k s ready os.0 (os.1 ∷ []) z (uses_here m f formed block k s ready os.1 [] z d)) (valued (os.0 ∷ os.1 ∷ []) os.2).1.0;
+            fits = pointer_fits (length s.memory) (value_of s.env os.1) (subst (λ t. HasShape (length s.memory) t (value_of s.env os.1)) os.4 sh.1.0);
+            touch = ap (λ op. touch_of op i.ty (map (value_of s.env) i.opds)) is ∙ ap (λ os. touch_of (Store align) i.ty (map (value_of s.env) os)) os.2
+                ∙ ap (λ n. Some (record { pointer = pointer_of (value_of s.env os.1); size = n; writes = true }))
+                (stored_is (length s.memory) i.ty (value_of s.env os.0) (subst (λ t. HasShape (length s.memory) t (value_of s.env os.0)) os.3 sh.0));
+          },
+        )
     by_op op is = inl (ap (λ op. touch_of op i.ty (map (value_of s.env) i.opds)) is)
 
   keep_none : (x : Option Touch) → KeepApart x None

@@ -1,6 +1,6 @@
 -- The instructions of a block of a formed module may run one after another, and the state in which it is entered is ready.
-use Rattle.std.proofs.Common.{◌≡◌, refl, sym, ap, ◌∙◌, subst, ℕ, zero, suc, ◌+◌, ◌<◌, ◌≤◌, ◌⊎◌, inl, inr, Bool, true, false, not, ◌&&◌, ◌||◌, cond, Option, None, Some, List, [], ◌∷◌, ◌++◌, length, length-append, map, take, nat_eq, slice_get, arith}
-use Rattle.std.specs.List.{list_any, Contains}
+use Rattle.std.proofs.Common.{◌≡◌, refl, sym, ap, ◌∙◌, subst, ℕ, zero, suc, ◌+◌, ◌<◌, ◌≤◌, ◌⊎◌, inl, inr, Bool, true, false, not, ◌&&◌, ◌||◌, cond, Option, None, Some, List, [], ◌∷◌, ◌++◌, length, map, take, nat_eq, slice_get, arith}
+use Rattle.std.specs.List.{list_any}
 use Rattle.std.proofs.lemmas.Bool.Decides.{nat_tests}
 use Rattle.std.proofs.lemmas.List.Elements.{All-contains}
 use Rattle.ir_types.specs.declared.id.Id.{Id}
@@ -13,9 +13,9 @@ use Rattle.ir_types.specs.declared.func.Func.{Func}
 use Rattle.ir_types.specs.declared.module.Item.{Item}
 use Rattle.ir_types.specs.declared.module.Item.TheVariants.{Kept, Opaque, Func as FuncItem}
 use Rattle.ir_types.specs.declared.module.Module.{Module}
-use Rattle.ir_types.specs.Walks.{HasEdge, GoesOn, IsWalk, EndsFrom, EndsAt}
+use Rattle.ir_types.specs.Walks.{GoesOn, IsWalk, EndsFrom, EndsAt}
 use Rattle.ir_types.specs.Available.{graph_of, is_param, defines, insts_of, insts_at, stands_from, stands_on, IsAvailableFunc}
-use Rattle.ir_types.specs.Formed.{given_ty, is_alloca, ends_from, EndsOnce, block_ids, item_ids, ids_of_items, ids_of, IsFormedInst, IsFormedFunc, IsFormedItem, IsFormed}
+use Rattle.ir_types.specs.Formed.{is_alloca, ends_from, EndsOnce, block_ids, item_ids, ids_of_items, IsFormedFunc, IsFormedItem}
 use Rattle.ir_types.proofs.Among.{among, same_is, same_itself, swapped, among_left, among_right, Once, once_of_pairs}
 use Rattle.ir_model.specs.Values.{same_id}
 use Rattle.ir_model.specs.Step.{State, Went, Lost, Halts, On, then_go, Reached, Calls, step}
@@ -26,17 +26,17 @@ use Rattle.ir_model.proofs.Walked.{stands_next, insts_found}
 use Rattle.ir_model.proofs.Shaped.{walk_end_plain, before_plain}
 use Rattle.ir_model.proofs.Sound.{contained_item}
 use Rattle.vx_view.specs.Answers.{funcs_of, param_in, find, either, param_of, Standing, standing, standing_in, standing_of, found}
-use Rattle.vx_view.specs.Conflicts.{Allocated, Unknown, value_kind, kind_of}
+use Rattle.vx_view.specs.Conflicts.{Allocated, Unknown, value_kind}
 use Rattle.vx_view.proofs.Edits.{lacks_left, lacks_right}
 use Rattle.vx_serial.specs.Window.{order_in, joined}
 use Rattle.rf_order.specs.Rows.{Instead}
 use Rattle.rf_order.specs.Swaps.{CallsKeepObjects}
 use Rattle.rf_order.specs.Steps.{uses}
 use Rattle.rf_order.specs.Windows.{AreOnce, ids_of as ids_of_insts, AreBundles}
-use Rattle.rf_order.specs.Ready.{Known, next, IsStatement, MayRun, MayRunAll, is_known, IsReady}
+use Rattle.rf_order.specs.Ready.{Known, next, IsStatement, MayRunAll, is_known, IsReady}
 use Rattle.rf_order.specs.Blocks.{ArePhis, NoPhis, IsEntered, IsCut, BlocksRefine}
 use Rattle.rf_order.proofs.Shapes.{step_ready}
-use Rattle.rf_order.proofs.Refined.{NoEnds, no_ends, insts_append, windows}
+use Rattle.rf_order.proofs.Refined.{NoEnds, insts_append, windows}
 
 true_false : true ≡ false → ⊥
 true_false e = cc
@@ -112,13 +112,18 @@ block_once (c ∷ bs) (suc at) b e once = block_once bs at b e (once_right (Ids 
 in_block : (bs : List Block) (at : ℕ) (b : Block) (k : ℕ) (i : Inst) (func number : ℕ) → slice_get bs at ≡ Some b → slice_get b.insts k ≡ Some i → Once (block_ids bs) → FoundIs (standing_in i.id func number bs) i
 in_block [] at b k i func number e h once = absurd cc
 in_block (c ∷ bs) zero b k i func number e h once =
-    let same : c ≡ b = cc in
-    (record { place = record { func = func; block = number }; block = c.insts; inst = i },
-    ap (λ o. either (standing func number c.insts o) (standing_in i.id func (suc number) bs)) (find_own c.insts k i (ap (λ (c : Block). slice_get c.insts k) same ∙ h) (once_left (Ids c.insts) (block_ids bs) once)), refl)
+    let same : c ≡ b = cc in (
+      record { place = record { func = func; block = number }; block = c.insts; inst = i },
+      ap (λ o. either (standing func number c.insts o) (standing_in i.id func (suc number) bs)) (find_own c.insts k i (ap (λ (c : Block). slice_get c.insts k) same ∙ h) (once_left (Ids c.insts) (block_ids bs) once)),
+      refl,
+    )
 in_block (c ∷ bs) (suc at) b k i func number e h once =
-    let r = in_block bs at b k i func (suc number) e h (once_right (Ids c.insts) (block_ids bs) once) in
-    (r.0, ap (λ o. either (standing func number c.insts o) (standing_in i.id func (suc number) bs))
-    (find_none c.insts i.id (once_apart (Ids c.insts) (block_ids bs) i.id once (block_among bs at b i.id e (inst_among b.insts k i h)))) ∙ r.1, r.2)
+    let r = in_block bs at b k i func (suc number) e h (once_right (Ids c.insts) (block_ids bs) once) in (
+      r.0,
+      ap (λ o. either (standing func number c.insts o) (standing_in i.id func (suc number) bs))
+          (find_none c.insts i.id (once_apart (Ids c.insts) (block_ids bs) i.id once (block_among bs at b i.id e (inst_among b.insts k i h)))) ∙ r.1,
+      r.2,
+    )
 
 of_none : (items : List Item) (x : Id) (func : ℕ) → among (ids_of_items items) x ≡ false → (param_of x (funcs_of items) ≡ None) × (standing_of x func (funcs_of items) ≡ None)
 of_none [] x func h = (refl, refl)
@@ -126,9 +131,10 @@ of_none (Kept text ∷ items) x func h = of_none items x func h
 of_none (Opaque text ∷ items) x func h = of_none items x func h
 of_none (FuncItem g ∷ items) x func h =
     let mine = lacks_left (item_ids (FuncItem g)) (ids_of_items items) x h in
-    let rest = of_none items x (suc func) (lacks_right (item_ids (FuncItem g)) (ids_of_items items) x h) in
-    (ap (λ o. either o (param_of x (funcs_of items))) (param_none g.params x (lacks_left (map (λ (p : Param). p.id) g.params) (block_ids g.blocks) x mine)) ∙ rest.0,
-    ap (λ o. either o (standing_of x (suc func) (funcs_of items))) (in_none g.blocks x func 0 (lacks_right (map (λ (p : Param). p.id) g.params) (block_ids g.blocks) x mine)) ∙ rest.1)
+    let rest = of_none items x (suc func) (lacks_right (item_ids (FuncItem g)) (ids_of_items items) x h) in (
+      ap (λ o. either o (param_of x (funcs_of items))) (param_none g.params x (lacks_left (map (λ (p : Param). p.id) g.params) (block_ids g.blocks) x mine)) ∙ rest.0,
+      ap (λ o. either o (standing_of x (suc func) (funcs_of items))) (in_none g.blocks x func 0 (lacks_right (map (λ (p : Param). p.id) g.params) (block_ids g.blocks) x mine)) ∙ rest.1,
+    )
 
 func_among : (items : List Item) (kf : ℕ) (f : Func) (x : Id) → slice_get items kf ≡ Some (FuncItem f) → among (block_ids f.blocks) x ≡ true → among (ids_of_items items) x ≡ true
 func_among [] kf f x e h = absurd cc
@@ -152,17 +158,19 @@ of_items (FuncItem g ∷ items) zero f at b k i func e found here once =
     let mine : Once (item_ids (FuncItem g)) = once_left (item_ids (FuncItem g)) (ids_of_items items) once in
     let among_blocks : among (block_ids g.blocks) i.id ≡ true = block_among g.blocks at b i.id there (inst_among b.insts k i here) in
     let rest = of_none items i.id (suc func) (apart_after (item_ids (FuncItem g)) (ids_of_items items) i.id once (among_right (map (λ (p : Param). p.id) g.params) (block_ids g.blocks) i.id among_blocks)) in
-    let r = in_block g.blocks at b k i func 0 there here (once_right (map (λ (p : Param). p.id) g.params) (block_ids g.blocks) mine) in
-    (ap (λ o. either o (param_of i.id (funcs_of items))) (param_none g.params i.id (once_apart (map (λ (p : Param). p.id) g.params) (block_ids g.blocks) i.id mine among_blocks)) ∙ rest.0,
-    (r.0, ap (λ o. either o (standing_of i.id (suc func) (funcs_of items))) r.1, r.2))
+    let r = in_block g.blocks at b k i func 0 there here (once_right (map (λ (p : Param). p.id) g.params) (block_ids g.blocks) mine) in (
+      ap (λ o. either o (param_of i.id (funcs_of items))) (param_none g.params i.id (once_apart (map (λ (p : Param). p.id) g.params) (block_ids g.blocks) i.id mine among_blocks)) ∙ rest.0,
+      (r.0, ap (λ o. either o (standing_of i.id (suc func) (funcs_of items))) r.1, r.2),
+    )
 of_items (Kept text ∷ items) (suc kf) f at b k i func e found here once = of_items items kf f at b k i func e found here once
 of_items (Opaque text ∷ items) (suc kf) f at b k i func e found here once = of_items items kf f at b k i func e found here once
 of_items (FuncItem g ∷ items) (suc kf) f at b k i func e found here once =
     let none : among (item_ids (FuncItem g)) i.id ≡ false =
-        once_apart (item_ids (FuncItem g)) (ids_of_items items) i.id once (func_among items kf f i.id e (block_among f.blocks at b i.id found (inst_among b.insts k i here))) in
-    let r = of_items items kf f at b k i (suc func) e found here (once_right (item_ids (FuncItem g)) (ids_of_items items) once) in
-    (ap (λ o. either o (param_of i.id (funcs_of items))) (param_none g.params i.id (lacks_left (map (λ (p : Param). p.id) g.params) (block_ids g.blocks) i.id none)) ∙ r.0,
-    (r.1.0, ap (λ o. either o (standing_of i.id (suc func) (funcs_of items))) (in_none g.blocks i.id func 0 (lacks_right (map (λ (p : Param). p.id) g.params) (block_ids g.blocks) i.id none)) ∙ r.1.1, r.1.2))
+    once_apart (item_ids (FuncItem g)) (ids_of_items items) i.id once (func_among items kf f i.id e (block_among f.blocks at b i.id found (inst_among b.insts k i here))) in
+    let r = of_items items kf f at b k i (suc func) e found here (once_right (item_ids (FuncItem g)) (ids_of_items items) once) in (
+      ap (λ o. either o (param_of i.id (funcs_of items))) (param_none g.params i.id (lacks_left (map (λ (p : Param). p.id) g.params) (block_ids g.blocks) i.id none)) ∙ r.0,
+      (r.1.0, ap (λ o. either o (standing_of i.id (suc func) (funcs_of items))) (in_none g.blocks i.id func 0 (lacks_right (map (λ (p : Param). p.id) g.params) (block_ids g.blocks) i.id none)) ∙ r.1.1, r.1.2),
+    )
 
 -- ---- walks
 
@@ -521,7 +529,7 @@ module _ (m : Module) (f : Func) (walk : List ℕ) (at : ℕ) (b : Block) (phis 
             let less = get_less front r.place r.inst r.here in
             let there : slice_get Rest r.place ≡ Some r.inst = ap (λ l. slice_get l r.place) rest_is ∙ get_front front (i ∷ (is ++ last ∷ after)) r.place less ∙ r.here in
             let place : length phis + r.place ≡ length phis + length front =
-                one_place m f walk at b phis before insts last after cut b.insts (length phis + r.place) (length phis + length front) r.inst i (on_body r.place r.inst there) in_block_here r.is_it once_in in
+            one_place m f walk at b phis before insts last after cut b.insts (length phis + r.place) (length phis + length front) r.inst i (on_body r.place r.inst there) in_block_here r.is_it once_in in
             absurd (omega arith)
 
   or_moved : (a d e : Bool) → (a || (d || e)) ≡ ((d || (a || false)) || e)
@@ -532,14 +540,15 @@ module _ (m : Module) (f : Func) (walk : List ℕ) (at : ℕ) (b : Block) (phis 
 
   pub all_run : (is front : List Inst) (k : Known) → before ++ insts ≡ front ++ is → ((z : Id) → k.values z ≡ (defines z front || Start.values z)) → NoPhis is → NoEnds is → MayRunAll m f b.insts k is
   all_run [] front k e same plain goes = tt
-  all_run (i ∷ is) front k e same plain goes =
-      (record {
-        statement = statement m f walk at b phis before insts last after cut (length phis + length front) i (in_block_here front is i e) plain.0 goes.0;
-        there = λ z u. same z ∙ known_before front is i e z u plain.0;
-        fresh = same i.id ∙ new_here front is i e;
-      },
-      all_run is (front ++ i ∷ []) (next k i) (e ∙ sym (append_more front i is))
-      (λ z. ap (λ b. same_id i.id z || b) (same z) ∙ or_moved (same_id i.id z) (defines z front) (Start.values z) ∙ ap (λ b. b || Start.values z) (sym (defines_append z front (i ∷ [])))) plain.1 goes.1)
+  all_run (i ∷ is) front k e same plain goes = (
+    record {
+      statement = statement m f walk at b phis before insts last after cut (length phis + length front) i (in_block_here front is i e) plain.0 goes.0;
+      there = λ z u. same z ∙ known_before front is i e z u plain.0;
+      fresh = same i.id ∙ new_here front is i e;
+    },
+    all_run is (front ++ i ∷ []) (next k i) (e ∙ sym (append_more front i is))
+        (λ z. ap (λ b. same_id i.id z || b) (same z) ∙ or_moved (same_id i.id z) (defines z front) (Start.values z) ∙ ap (λ b. b || Start.values z) (sym (defines_append z front (i ∷ [])))) plain.1 goes.1,
+  )
 
   stands_known : (a : Opd) → is_known (length m.globals) Start.values a ≡ true → is_known (length m.globals) (λ x. stands_on f x (length phis) walk) a ≡ true
   stands_known (Val x) h = and_right (not (defines x Rest)) (stands_on f x (length phis) walk) h

@@ -1,5 +1,5 @@
 -- Operations in the other order: what only reads, what writes, and what makes objects.
-use Rattle.std.proofs.Common.{◌≡◌, refl, sym, ap, ◌∙◌, subst, ℕ, ℤ, pos, negsuc, suc, zero, ◌+◌, ◌*◌, ◌<◌, ◌≤◌, ◌⊎◌, inl, inr, Bool, true, false, not, ◌&&◌, ◌||◌, cond, Option, None, Some, List, [], ◌∷◌, ◌++◌, length, drop, map, nat_eq, nat_le, slice_get, slice_set, option_map, arith}
+use Rattle.std.proofs.Common.{◌≡◌, refl, sym, ap, ◌∙◌, subst, ℕ, ℤ, pos, negsuc, ◌+◌, ◌*◌, ◌<◌, ◌≤◌, ◌⊎◌, inl, inr, Bool, true, false, ◌&&◌, cond, Option, None, Some, List, [], ◌∷◌, ◌++◌, length, drop, nat_eq, nat_le, slice_get, slice_set, option_map, arith}
 use Rattle.ir_types.specs.declared.ty.Ty.{Ty}
 use Rattle.ir_types.specs.declared.ty.Ty.TheVariants.{Void, Int, Ptr, Row}
 use Rattle.ir_types.specs.declared.ty.Elem.{Elem}
@@ -9,17 +9,16 @@ use Rattle.ir_types.specs.declared.op.Op.TheVariants.{Gep, Load, Store, Alloca}
 use Rattle.ir_model.specs.declared.value.Value.{Value}
 use Rattle.ir_model.specs.declared.value.Value.TheVariants.{Lane as LaneValue, Row as RowValue, Ptr as PtrValue}
 use Rattle.ir_model.specs.Values.{Lane, Pointer, pointer_of}
-use Rattle.ir_model.specs.Memory.{Object, Memory, put, place_of, loaded_from, loaded, lane_from, stored}
+use Rattle.ir_model.specs.Memory.{Object, Memory, put, place_of, loaded_from, loaded, lane_from}
 use Rattle.ir_model.specs.Sizes.{bytes_in, size_of, elem_size}
 use Rattle.ir_model.specs.Operations.{narrow}
 use Rattle.ir_model.specs.Addresses.{stepped, walked, is_within, is_inside, kept_inside, inbounds_value}
-use Rattle.ir_model.specs.Accesses.{Effect, value_effect, memory_effect, bytes_of, store_effect, lanes_from, load_effect, load_row_effect, typed_load, fresh_object, alloca_effect}
+use Rattle.ir_model.specs.Accesses.{Effect, value_effect, lanes_from, typed_load}
 use Rattle.ir_model.specs.Step.{result_of, effect_of}
-use Rattle.ir_model.proofs.Stores.{IsPlace, place_of-is, IsStored, stored-is, is-stored, set_twice}
-use Rattle.ir_model.proofs.Lists.{put_comm, length-put, length-lane_bytes}
-use Rattle.ir_model.proofs.Finer.{length_set}
-use Rattle.rf_order.specs.Swaps.{KeepsObjects, Touch, touch_of, AreApart, KeepApart, IsNamed, AreNamed, Acts, Swapped, MayPass}
-use Rattle.rf_order.proofs.Lists.{get_other, set_comm, get_front, get_within, set_front, get_there, get_length, get_set_same, get_drop, put_other, Agree, lane_agrees, lanes_agree}
+use Rattle.ir_model.proofs.Stores.{place_of-is, IsStored, set_twice}
+use Rattle.ir_model.proofs.Lists.{put_comm, length-put}
+use Rattle.rf_order.specs.Swaps.{KeepsObjects, Touch, touch_of, AreApart, IsNamed, AreNamed, Acts, MayPass}
+use Rattle.rf_order.proofs.Lists.{get_other, set_comm, get_front, get_there, get_set_same, get_drop, put_other, Agree, lane_agrees, lanes_agree}
 
 -- ---- operations that only read
 
@@ -229,9 +228,11 @@ stored_keeps align bytes o z m n s k object e = by_test (nat_eq k o) refl where
   by_test true test =
       let same : k ≡ o = grind arith in
       let found : Some object ≡ Some s.object = sym e ∙ ap (slice_get m) same ∙ s.found in
-      let is : object ≡ s.object = cc in
-      (put bytes s.at s.object, ap (slice_get n) same ∙ ap (λ (l : Memory). slice_get l o) s.left ∙ get_set_same m o s.object (put bytes s.at s.object) s.found,
-      length-put bytes s.at s.object ∙ ap length (sym is))
+      let is : object ≡ s.object = cc in (
+        put bytes s.at s.object,
+        ap (slice_get n) same ∙ ap (λ (l : Memory). slice_get l o) s.left ∙ get_set_same m o s.object (put bytes s.at s.object) s.found,
+        length-put bytes s.at s.object ∙ ap length (sym is),
+      )
   by_test false test =
       (object, ap (λ (l : Memory). slice_get l k) s.left ∙ get_other m o k (put bytes s.at s.object) (λ same. true_false (let t : nat_eq k o ≡ true = grind arith in sym t ∙ test)) ∙ e, refl)
 
@@ -276,44 +277,46 @@ stores_swap a1 a2 b1 b2 o k z y m m1 m2 s t apart = by_test (nat_eq o k) refl wh
       let same : o ≡ k = grind arith in
       let again : Some t.object ≡ Some (put b1 s.at s.object) = sym t.found ∙ ap (slice_get m1) (sym same) ∙ ap (λ (l : Memory). slice_get l o) s.left ∙ get_set_same m o s.object (put b1 s.at s.object) s.found in
       let object : t.object ≡ put b1 s.at s.object = cc in
-      let len : length t.object ≡ length s.object = ap length object ∙ length-put b1 s.at s.object in
-      (slice_set m o (put b2 t.at s.object),
-      record {
-        object = s.object;
-        at = t.at;
-        found = ap (slice_get m) (sym same) ∙ s.found;
-        place = record { here = t.place.here; room = let r = t.place.room in omega arith; aligned = t.place.aligned };
-        left = ap (λ n. slice_set m n (put b2 t.at s.object)) same;
-      },
-      record {
-        object = put b2 t.at s.object;
-        at = s.at;
-        found = get_set_same m o s.object (put b2 t.at s.object) s.found;
-        place = record { here = s.place.here; room = let r = s.place.room in let l = length-put b2 t.at s.object in omega arith; aligned = s.place.aligned };
-        left = t.left ∙ ap (λ (n : Memory). slice_set n k (put b2 t.at t.object)) s.left ∙ ap (λ n. slice_set (slice_set m o (put b1 s.at s.object)) n (put b2 t.at t.object)) (sym same)
-        ∙ set_twice m o (put b1 s.at s.object) (put b2 t.at t.object) ∙ ap (λ (x : Object). slice_set m o (put b2 t.at x)) object
-        ∙ ap (slice_set m o) (by_side (apart o s.at t.at (ap (λ y. Some (o, y)) s.place.here) (ap (λ n. Some (n, y)) (sym same) ∙ ap (λ y. Some (o, y)) t.place.here)))
-        ∙ sym (set_twice m o (put b2 t.at s.object) (put b1 s.at (put b2 t.at s.object)));
-      })
+      let len : length t.object ≡ length s.object = ap length object ∙ length-put b1 s.at s.object in (
+        slice_set m o (put b2 t.at s.object),
+        record {
+          object = s.object;
+          at = t.at;
+          found = ap (slice_get m) (sym same) ∙ s.found;
+          place = record { here = t.place.here; room = let r = t.place.room in omega arith; aligned = t.place.aligned };
+          left = ap (λ n. slice_set m n (put b2 t.at s.object)) same;
+        },
+        record {
+          object = put b2 t.at s.object;
+          at = s.at;
+          found = get_set_same m o s.object (put b2 t.at s.object) s.found;
+          place = record { here = s.place.here; room = let r = s.place.room in let l = length-put b2 t.at s.object in omega arith; aligned = s.place.aligned };
+          left = t.left ∙ ap (λ (n : Memory). slice_set n k (put b2 t.at t.object)) s.left ∙ ap (λ n. slice_set (slice_set m o (put b1 s.at s.object)) n (put b2 t.at t.object)) (sym same)
+              ∙ set_twice m o (put b1 s.at s.object) (put b2 t.at t.object) ∙ ap (λ (x : Object). slice_set m o (put b2 t.at x)) object
+              ∙ ap (slice_set m o) (by_side (apart o s.at t.at (ap (λ y. Some (o, y)) s.place.here) (ap (λ n. Some (n, y)) (sym same) ∙ ap (λ y. Some (o, y)) t.place.here)))
+              ∙ sym (set_twice m o (put b2 t.at s.object) (put b1 s.at (put b2 t.at s.object)));
+        },
+      )
     where
       by_side : (s.at + length b1 ≤ t.at) ⊎ (t.at + length b2 ≤ s.at) → put b2 t.at (put b1 s.at s.object) ≡ put b1 s.at (put b2 t.at s.object)
       by_side (inl h) = sym (put_comm b1 b2 s.at t.at s.object h)
       by_side (inr h) = put_comm b2 b1 t.at s.at s.object h
   by_test false test =
       let differ : o ≡ k → ⊥ = (λ same. true_false (let t : nat_eq o k ≡ true = grind arith in sym t ∙ test)) in
-      let back : k ≡ o → ⊥ = (λ same. differ (sym same)) in
-      (slice_set m k (put b2 t.at t.object),
-      record {
-        object = t.object;
-        at = t.at;
-        found = sym (get_other m o k (put b1 s.at s.object) differ) ∙ ap (λ (l : Memory). slice_get l k) (sym s.left) ∙ t.found;
-        place = t.place;
-        left = refl;
-      },
-      record {
-        object = s.object;
-        at = s.at;
-        found = get_other m k o (put b2 t.at t.object) back ∙ s.found;
-        place = s.place;
-        left = t.left ∙ ap (λ (n : Memory). slice_set n k (put b2 t.at t.object)) s.left ∙ set_comm m o k (put b1 s.at s.object) (put b2 t.at t.object) differ;
-      })
+      let back : k ≡ o → ⊥ = (λ same. differ (sym same)) in (
+        slice_set m k (put b2 t.at t.object),
+        record {
+          object = t.object;
+          at = t.at;
+          found = sym (get_other m o k (put b1 s.at s.object) differ) ∙ ap (λ (l : Memory). slice_get l k) (sym s.left) ∙ t.found;
+          place = t.place;
+          left = refl;
+        },
+        record {
+          object = s.object;
+          at = s.at;
+          found = get_other m k o (put b2 t.at t.object) back ∙ s.found;
+          place = s.place;
+          left = t.left ∙ ap (λ (n : Memory). slice_set n k (put b2 t.at t.object)) s.left ∙ set_comm m o k (put b1 s.at s.object) (put b2 t.at t.object) differ;
+        },
+      )

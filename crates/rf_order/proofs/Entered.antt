@@ -1,5 +1,5 @@
 -- Phis bring values of their types' shapes, and leave the roots of the kinds that are known.
-use Rattle.std.proofs.Common.{◌≡◌, refl, sym, ap, ◌∙◌, subst, ℕ, zero, suc, ◌+◌, ◌-◌, ◌<◌, ◌≤◌, ◌⊎◌, inl, inr, Bool, true, false, not, ◌&&◌, ◌||◌, cond, Option, None, Some, List, [], ◌∷◌, ◌++◌, length, length-append, map, nat_eq, slice_get, option_map, arith}
+use Rattle.std.proofs.Common.{◌≡◌, refl, sym, ap, ◌∙◌, subst, ℕ, zero, suc, ◌+◌, ◌-◌, ◌<◌, ◌⊎◌, inl, inr, Bool, true, false, cond, Option, None, Some, List, [], ◌∷◌, ◌++◌, length, length-append, map, slice_get, option_map, arith}
 use Rattle.std.specs.List.{Contains}
 use Rattle.std.proofs.lemmas.Option.{slice_get-map}
 use Rattle.std.proofs.lemmas.List.Elements.{All-contains}
@@ -8,31 +8,30 @@ use Rattle.ir_types.specs.declared.ty.Ty.{Ty}
 use Rattle.ir_types.specs.declared.opd.Opd.{Opd}
 use Rattle.ir_types.specs.declared.opd.Opd.TheVariants.{Val, Lit, Sym}
 use Rattle.ir_types.specs.declared.op.Op.{Op}
-use Rattle.ir_types.specs.declared.op.Op.TheVariants.{Phi, Alloca}
+use Rattle.ir_types.specs.declared.op.Op.TheVariants.{Phi}
 use Rattle.ir_types.specs.declared.inst.Inst.{Inst}
 use Rattle.ir_types.specs.declared.func.Block.{Block}
 use Rattle.ir_types.specs.declared.func.Func.{Func}
 use Rattle.ir_types.specs.declared.module.Module.{Module}
-use Rattle.ir_types.specs.Typed.{is_value, IsTyped}
-use Rattle.ir_types.specs.Walks.{targets_at, HasEdge, IsWalk, EndsAt}
+use Rattle.ir_types.specs.Typed.{IsTyped}
+use Rattle.ir_types.specs.Walks.{targets_at}
 use Rattle.ir_types.specs.Available.{targets_of, graph_of, insts_at, stands_on, walk_end, before_use, IsAvailableAt}
-use Rattle.ir_types.specs.Formed.{given_ty, value_ty, opd_ty, IsOpd, is_alloca, IsTarget, IsIncoming, IsFormedInst}
+use Rattle.ir_types.specs.Formed.{given_ty, opd_ty, IsOpd, is_alloca, IsTarget, IsIncoming, IsFormedInst}
 use Rattle.ir_types.proofs.Formed.{Every, every_at, every_of_all, IsValued}
-use Rattle.ir_types.proofs.Among.{same_is, swapped}
+use Rattle.ir_types.proofs.Among.{same_is}
 use Rattle.ir_model.specs.declared.value.Value.{Value}
 use Rattle.ir_model.specs.Values.{Env, same_id, with_value, pointer_of, value_of, type_of}
-use Rattle.ir_model.specs.Step.{State, Went, Lost, Halts, On, then_go, Reached, Calls}
-use Rattle.ir_model.specs.Run.{is_phi, arm_from, arm_of, with_phi, reached_if, types_of, no_calls}
-use Rattle.ir_model.specs.Shapes.{HasShape, IsShaped}
+use Rattle.ir_model.specs.Step.{State, On, then_go, Reached}
+use Rattle.ir_model.specs.Run.{is_phi, arm_of, with_phi, reached_if, types_of}
+use Rattle.ir_model.specs.Shapes.{HasShape}
 use Rattle.ir_model.proofs.Walked.{stands_next, insts_found, targets_found, counted_at, contained_at, at_contained, Arm, arm_found}
-use Rattle.ir_model.proofs.Ids.{value_type}
 use Rattle.ir_model.proofs.Shaped.{OpdShape, opd_shape, next_shaped}
 use Rattle.ir_model.proofs.Sound.{params_formed}
 use Rattle.ir_model.specs.Shapes.{ResultHasShape}
 use Rattle.ir_model.proofs.Shaped.{result_shape}
 use Rattle.vx_view.specs.Answers.{found}
-use Rattle.vx_view.specs.Conflicts.{Kind, Allocated, Unknown, value_kind, kind_of, never_meet}
-use Rattle.rf_order.specs.Ready.{has_kind, NamesOne, NameOthers, is_known, RootsApart}
+use Rattle.vx_view.specs.Conflicts.{Allocated, Unknown, value_kind, kind_of}
+use Rattle.rf_order.specs.Ready.{has_kind, NamesOne, is_known}
 use Rattle.rf_order.specs.Blocks.{ArePhis, IsEntered, IsCut, CameFrom, run_phis, PhisAreEntered}
 use Rattle.rf_order.proofs.Shapes.{never_kinds}
 use Rattle.rf_order.proofs.Blocks.{get_middle, of_items, item, once_all, once, func, available}

@@ -1,12 +1,12 @@
 -- A block that goes on to another leaves a state in which that one is entered.
-use Rattle.std.proofs.Common.{◌≡◌, refl, sym, ap, ◌∙◌, subst, ℕ, zero, suc, ◌+◌, ◌<◌, ◌≤◌, ◌⊎◌, inl, inr, Bool, true, false, not, ◌&&◌, ◌||◌, cond, Option, None, Some, List, [], ◌∷◌, ◌++◌, length, length-append, map, nat_eq, slice_get, arith}
+use Rattle.std.proofs.Common.{◌≡◌, refl, sym, ap, ◌∙◌, subst, ℕ, ◌+◌, ◌≤◌, ◌⊎◌, inl, inr, Bool, true, false, not, ◌&&◌, ◌||◌, cond, None, Some, List, [], ◌∷◌, ◌++◌, length, length-append, map, slice_get, arith}
 use Rattle.ir_types.specs.declared.id.Id.{Id}
 use Rattle.ir_types.specs.declared.ty.Ty.{Ty}
 use Rattle.ir_types.specs.declared.ty.Ty.TheVariants.{Void}
 use Rattle.ir_types.specs.declared.opd.Opd.{Opd}
 use Rattle.ir_types.specs.declared.opd.Opd.TheVariants.{Val, Lit, Sym}
 use Rattle.ir_types.specs.declared.op.Op.{Op}
-use Rattle.ir_types.specs.declared.op.Op.TheVariants.{Alloca, Ret, Br, CondBr, Switch, Unreachable}
+use Rattle.ir_types.specs.declared.op.Op.TheVariants.{Alloca, Ret, Br, CondBr, Switch}
 use Rattle.ir_types.specs.declared.inst.Inst.{Inst}
 use Rattle.ir_types.specs.declared.func.Block.{Block}
 use Rattle.ir_types.specs.declared.func.Func.{Func}
@@ -16,18 +16,18 @@ use Rattle.ir_types.specs.Available.{defines, insts_at, stands_on}
 use Rattle.ir_types.specs.Formed.{given_ty, value_ty, opd_ty, is_alloca, IsFormedInst}
 use Rattle.ir_types.proofs.Among.{same_is}
 use Rattle.ir_model.specs.declared.value.Value.{Value}
-use Rattle.ir_model.specs.declared.value.Value.TheVariants.{Lane as LaneValue, Row as RowValue, Ptr as PtrValue}
-use Rattle.ir_model.specs.Values.{Lane, same_id, pointer_of, value_of}
+use Rattle.ir_model.specs.declared.value.Value.TheVariants.{Lane as LaneValue}
+use Rattle.ir_model.specs.Values.{same_id, value_of}
 use Rattle.ir_model.specs.Step.{State, Went, Lost, Halts, On, then_go, Reached, Calls, step}
-use Rattle.ir_model.specs.Run.{Exit, Leaves, To, exit_with, is_terminator, leave, run_insts, types_of}
+use Rattle.ir_model.specs.Run.{Exit, To, exit_with, is_terminator, leave, run_insts, types_of}
 use Rattle.ir_model.specs.Shapes.{HasShape, CallsKeepShapes}
 use Rattle.ir_model.proofs.Ids.{value_type}
 use Rattle.ir_model.proofs.Walked.{stands_enter, insts_found}
 use Rattle.ir_model.proofs.Shaped.{gives_nothing}
 use Rattle.vx_view.specs.Answers.{found}
-use Rattle.vx_view.specs.Conflicts.{Kind, Allocated, Unknown, value_kind, kind_of, never_meet, same_root}
+use Rattle.vx_view.specs.Conflicts.{Allocated, Unknown, value_kind, kind_of}
 use Rattle.rf_order.specs.Rows.{steps}
-use Rattle.rf_order.specs.Ready.{Known, next, MayRunAll, has_kind, NamesOne, NameOthers, is_known, RootsApart, IsReady}
+use Rattle.rf_order.specs.Ready.{Known, next, MayRunAll, has_kind, is_known, IsReady}
 use Rattle.rf_order.specs.Blocks.{IsEntered, IsCut, ExitsAreEntered}
 use Rattle.rf_order.proofs.Shapes.{never_kinds, step_ready}
 use Rattle.rf_order.proofs.Refined.{insts_append}
@@ -50,7 +50,7 @@ or_second false b h = h
 
 -- ---- after instructions
 
-abbrev all_next : Known → List Inst → Known
+abbrev pub all_next : Known → List Inst → Known
 all_next k [] = k
 all_next k (i ∷ is) = all_next (next k i) is
 
@@ -61,7 +61,7 @@ next_values (i ∷ is) k x h = next_values is (next k i) x (moved (same_id i.id 
   moved true b c h = or_second b true refl
   moved false b c h = h
 
-ready_all : (m : Module) (f : Func) (walk : List ℕ) (at : ℕ) (b : Block) (phis insts : List Inst) (last : Inst) (cut : IsCut m f walk at b phis [] insts last []) (calls : Calls) → CallsKeepShapes m calls →
+pub ready_all : (m : Module) (f : Func) (walk : List ℕ) (at : ℕ) (b : Block) (phis insts : List Inst) (last : Inst) (cut : IsCut m f walk at b phis [] insts last []) (calls : Calls) → CallsKeepShapes m calls →
     (is : List Inst) (k : Known) (r p : Reached) → MayRunAll m f b.insts k is → IsReady m f b.insts k r.state → steps (types_of f) calls is r ≡ On p → IsReady m f b.insts (all_next k is) p.state
 ready_all m f walk at b phis insts last cut calls keep [] k r p v g e = let same : r ≡ p = cc in subst (λ (p : Reached). IsReady m f b.insts k p.state) same g
 ready_all m f walk at b phis insts last cut calls keep (i ∷ is) k r p v g e =
@@ -75,7 +75,7 @@ ready_all m f walk at b phis insts last cut calls keep (i ∷ is) k r p v g e =
 
 -- ---- a terminator leaves the state
 
-goes_state : (op : Op) (vs : List Value) (s : State) (left to : ℕ) (q : Reached) → exit_with left (leave op vs s) ≡ On (To to q) → q.state ≡ s
+pub goes_state : (op : Op) (vs : List Value) (s : State) (left to : ℕ) (q : Reached) → exit_with left (leave op vs s) ≡ On (To to q) → q.state ≡ s
 goes_state (Br a) vs s left to q e = ap (state_of s) (sym e) where
   state_of : State → Went Exit → State
   state_of d (On (To to r)) = r.state
@@ -100,13 +100,13 @@ module _ (m : Module) (f : Func) (walk : List ℕ) (at : ℕ) (b : Block) (phis 
   abbrev Start : Known
   Start = entry m f walk at b phis [] insts last [] cut
 
-  last_here : slice_get b.insts (length phis + length insts) ≡ Some last
+  pub last_here : slice_get b.insts (length phis + length insts) ≡ Some last
   last_here = on_body m f walk at b phis [] insts last [] cut (length insts) last (get_middle insts [] last)
 
-  formed_last : IsFormedInst m f at (length phis + length insts) last
+  pub formed_last : IsFormedInst m f at (length phis + length insts) last
   formed_last = ((func m f walk at b phis [] insts last [] cut).blocks at b cut.there).insts (length phis + length insts) last last_here
 
-  last_type : value_ty f last.id ≡ Some (given_ty last.op last.ty)
+  pub last_type : value_ty f last.id ≡ Some (given_ty last.op last.ty)
   last_type = value_type f at b (length phis + length insts) last cut.there last_here (once m f walk at b phis [] insts last [] cut)
 
   last_kind : is_terminator last.op ≡ true → kind_of m (Val last.id) ≡ Unknown
@@ -115,14 +115,14 @@ module _ (m : Module) (f : Func) (walk : List ℕ) (at : ℕ) (b : Block) (phis 
       let s = of_items m.items it.0 f at b (length phis + length insts) last 0 it.1 cut.there last_here (once_all m f walk at b phis [] insts last [] cut) in
       ap (λ p. value_kind p (found m last.id)) s.0 ∙ ap (value_kind None) s.1.1 ∙ ap (λ (i : Inst). cond (is_alloca i.op) Allocated Unknown) s.1.2 ∙ ap (λ c. cond c Allocated Unknown) (no_alloca last.op t)
 
-  long : length (insts_at f at) ≡ length phis + (length insts + 1)
+  pub long : length (insts_at f at) ≡ length phis + (length insts + 1)
   long =
       ap length (insts_found f at b cut.there ∙ cut.parts)
       ∙ (let l : length (phis ++ (insts ++ last ∷ [])) ≡ length phis + length (insts ++ last ∷ []) = length-append phis (insts ++ last ∷ []) in
       let u : length (insts ++ last ∷ []) ≡ length insts + 1 = length-append insts (last ∷ []) in omega arith)
 
   -- what stands at the block's end is known, or is what the terminator gives
-  stood : (x : Id) → stands_on f x (length (insts_at f at)) walk ≡ true → (same_id last.id x ≡ true) ⊎ ((all_next Start insts).values x ≡ true)
+  pub stood : (x : Id) → stands_on f x (length (insts_at f at)) walk ≡ true → (same_id last.id x ≡ true) ⊎ ((all_next Start insts).values x ≡ true)
   stood x h = by_body (defines x (insts ++ last ∷ [])) refl where
     in_body : (defines x insts ≡ true) ⊎ ((same_id last.id x || false) ≡ true) → (same_id last.id x ≡ true) ⊎ ((all_next Start insts).values x ≡ true)
     in_body (inl d) = inr (next_values insts Start x (or_first (defines x insts) (Start.values x) d))

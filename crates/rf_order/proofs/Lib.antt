@@ -16,3 +16,4 @@ pub mod Starts
 pub mod Exits
 pub mod Phis
 pub mod Entered
+pub mod Leading

@@ -1,5 +1,5 @@
 -- Items of lists: what a setting, a putting and an appending leave.
-use Rattle.std.proofs.Common.{◌≡◌, refl, sym, ap, ◌∙◌, subst, ℕ, zero, suc, ◌+◌, ◌*◌, ◌<◌, ◌≤◌, ◌⊎◌, inl, inr, Option, None, Some, List, [], ◌∷◌, ◌++◌, length, drop, slice_get, slice_set, arith}
+use Rattle.std.proofs.Common.{◌≡◌, refl, sym, ap, ◌∙◌, ℕ, zero, suc, ◌+◌, ◌*◌, ◌<◌, ◌≤◌, ◌⊎◌, inl, inr, Some, List, [], ◌∷◌, ◌++◌, length, drop, slice_get, slice_set, arith}
 use Rattle.ir_model.specs.Values.{Lane}
 use Rattle.ir_model.specs.Memory.{put, with_low, lane_from}
 use Rattle.ir_model.specs.Accesses.{lanes_from}

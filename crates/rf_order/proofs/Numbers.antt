@@ -1,9 +1,9 @@
 -- Lists of numbers: taken apart, without repetitions, and one within another.
-use Rattle.std.proofs.Common.{◌≡◌, refl, sym, ap, ◌∙◌, subst, ℕ, zero, suc, ◌+◌, ◌<◌, ◌≤◌, ◌==◌, ◌⊎◌, inl, inr, Bool, true, false, not, ◌&&◌, ◌||◌, Option, None, Some, List, [], ◌∷◌, ◌++◌, length, length-append, arith}
+use Rattle.std.proofs.Common.{◌≡◌, refl, sym, ap, ◌∙◌, subst, ℕ, suc, ◌+◌, ◌<◌, ◌≤◌, ◌==◌, ◌⊎◌, inl, inr, Bool, true, false, ◌||◌, List, [], ◌∷◌, ◌++◌, length, arith}
 use Rattle.std.proofs.lemmas.Bool.Decides.{nat_tests}
 use Rattle.vx_order.specs.Groups.{has}
 use Rattle.vx_order.specs.Walks.{Ascends}
-use Rattle.vx_order.proofs.Placing.{head_or_more, at_head, in_more, ascends_has}
+use Rattle.vx_order.proofs.Placing.{head_or_more, ascends_has}
 use Rattle.rf_order.specs.Rows.{NoneBefore, Reordered}
 
 pub true_false : true ≡ false → ⊥
@@ -143,7 +143,7 @@ fills (w ∷ ws) ns d h less x k =
     let s = split_at ns w (h w (or_first (w == w) (has ws w) (number_itself w))) in
     let long : length ns ≡ suc (length (s.front ++ s.rest)) = ap length s.is ∙ long_middle s.front s.rest w in
     let inner : (y : ℕ) → has (s.front ++ s.rest) y ≡ true → has ws y ≡ true =
-        fills ws (s.front ++ s.rest) d.1 (λ x k. sym (without s.front s.rest w x (differ_of ws x w k d.0)) ∙ ap (λ l. has l x) (sym s.is) ∙ h x (or_second (w == x) (has ws x) k)) (omega arith) in
+    fills ws (s.front ++ s.rest) d.1 (λ x k. sym (without s.front s.rest w x (differ_of ws x w k d.0)) ∙ ap (λ l. has l x) (sym s.is) ∙ h x (or_second (w == x) (has ws x) k)) (omega arith) in
     by_test s inner (w == x) refl
   where
     by_test : (s : Split ns w) → ((y : ℕ) → has (s.front ++ s.rest) y ≡ true → has ws y ≡ true) → (b : Bool) → (w == x) ≡ b → (b || has ws x) ≡ true
@@ -198,9 +198,13 @@ pub reordered : (depends : ℕ → ℕ → Bool) (flat old : List ℕ) (done : �
     ((x : ℕ) → has old x ≡ true → done x ≡ false) → Topological depends done flat → Reordered depends old flat
 reordered depends [] [] done low a d same free t = refl
 reordered depends [] (x ∷ old) done low a d same free t = absurd (true_false (sym (or_first (x == x) (has old x) (number_itself x)) ∙ same x))
-reordered depends (y ∷ ys) old done low a d same free t =
-    (s.front, s.rest, s.is, none_before depends s.front y none,
-    reordered depends ys (s.front ++ s.rest) (also done y) low (ascends_out low s.front s.rest y up) d.1 same_rest free_rest t.1)
+reordered depends (y ∷ ys) old done low a d same free t = (
+  s.front,
+  s.rest,
+  s.is,
+  none_before depends s.front y none,
+  reordered depends ys (s.front ++ s.rest) (also done y) low (ascends_out low s.front s.rest y up) d.1 same_rest free_rest t.1,
+)
   where
     s : Split old y
     s = split_at old y (same y ∙ or_first (y == y) (has ys y) (number_itself y))

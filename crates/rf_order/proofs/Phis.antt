@@ -1,24 +1,17 @@
 -- Whole blocks: the phis are the same in both orders, and what is behind them runs as it stands.
-use Rattle.std.proofs.Common.{◌≡◌, refl, sym, ap, ◌∙◌, subst, ℕ, ◌⊎◌, inl, inr, Bool, true, false, cond, Option, None, Some, List, [], ◌∷◌, ◌++◌, length}
+use Rattle.std.proofs.Common.{◌≡◌, refl, sym, ap, ◌∙◌, subst, ℕ, ◌⊎◌, inl, inr, Bool, false, cond, Option, List, [], ◌∷◌, ◌++◌, length}
 use Rattle.ir_types.specs.declared.id.Id.{Id}
 use Rattle.ir_types.specs.declared.ty.Ty.{Ty}
 use Rattle.ir_types.specs.declared.inst.Inst.{Inst}
-use Rattle.ir_types.specs.declared.func.Block.{Block}
-use Rattle.ir_types.specs.declared.func.Func.{Func}
-use Rattle.ir_types.specs.declared.module.Module.{Module}
 use Rattle.ir_model.specs.Values.{Env}
 use Rattle.ir_model.specs.Step.{Went, Lost, Halts, On, then_go, Reached, Calls}
-use Rattle.ir_model.specs.Run.{Exit, is_phi, arm_of, with_phi, reached_if, enter, run_insts, types_of}
-use Rattle.ir_model.specs.Shapes.{CallsKeepShapes}
+use Rattle.ir_model.specs.Run.{is_phi, arm_of, with_phi, reached_if, enter, run_insts, types_of}
 use Rattle.vx_view.specs.Conflicts.{depends}
-use Rattle.vx_serial.specs.Window.{order_in, joined}
-use Rattle.rf_order.specs.Rows.{Instead, NoneBefore, Reordered}
-use Rattle.rf_order.specs.Swaps.{CallsKeepObjects}
-use Rattle.rf_order.specs.Windows.{AreBundles}
-use Rattle.rf_order.specs.Blocks.{ArePhis, NoPhis, IsEntered, IsCut, run_phis, with_groups, WholeBlocksRefine}
-use Rattle.rf_order.proofs.Refined.{all_once}
+use Rattle.vx_serial.specs.Window.{joined}
+use Rattle.rf_order.specs.Rows.{Instead, Reordered}
+use Rattle.rf_order.specs.Blocks.{ArePhis, NoPhis, IsEntered, run_phis, WholeBlocksRefine}
 use Rattle.rf_order.proofs.Windows.{orders_reordered}
-use Rattle.rf_order.proofs.Blocks.{entry, all_run, ends_none, window_once, blocks_refine-proof}
+use Rattle.rf_order.proofs.Blocks.{window_once, blocks_refine-proof}
 
 module _ (types : Id → Ty) (calls : Calls) (from : Option ℕ) (edge : Env) where
   -- phis first, then the rest

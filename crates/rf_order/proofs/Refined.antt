@@ -1,44 +1,42 @@
 -- Neighbours of which the second does not depend on the first may swap, and so a window may come in its order.
-use Rattle.std.proofs.Common.{◌≡◌, refl, sym, ap, ◌∙◌, subst, ℕ, ◌+◌, ◌<◌, ◌≤◌, ◌⊎◌, inl, inr, Bool, true, false, not, ◌&&◌, ◌||◌, cond, Option, None, Some, List, [], ◌∷◌, ◌++◌, length, map, arith}
-use Rattle.std.specs.List.{list_any, AllZip}
+use Rattle.std.proofs.Common.{◌≡◌, refl, sym, ap, ◌∙◌, subst, ℕ, Bool, true, false, ◌&&◌, ◌||◌, cond, Option, None, Some, List, [], ◌∷◌, ◌++◌, length, map}
+use Rattle.std.specs.List.{list_any}
 use Rattle.vx_num.specs.declared.operations.BinOp.{BinOp}
 use Rattle.vx_num.specs.declared.operations.BinOp.TheVariants.{Udiv, Sdiv, Urem, Srem}
-use Rattle.vx_num.specs.Bin.{is_undefined}
 use Rattle.ir_types.specs.declared.id.Id.{Id}
 use Rattle.ir_types.specs.declared.ty.Ty.{Ty}
-use Rattle.ir_types.specs.declared.ty.Ty.TheVariants.{Void, Int, Ptr, Row}
+use Rattle.ir_types.specs.declared.ty.Ty.TheVariants.{Int, Row}
 use Rattle.ir_types.specs.declared.opd.Opd.{Opd}
 use Rattle.ir_types.specs.declared.opd.Opd.TheVariants.{Val, Lit, Sym}
 use Rattle.ir_types.specs.declared.op.Op.{Op}
-use Rattle.ir_types.specs.declared.op.Op.TheVariants.{Bin, Gep, Load, Store, Alloca, Call, Unreachable, CondBr, Switch}
+use Rattle.ir_types.specs.declared.op.Op.TheVariants.{Bin, Load, Store, Alloca, Call, Unreachable, CondBr, Switch}
 use Rattle.ir_types.specs.declared.inst.Inst.{Inst}
 use Rattle.ir_types.specs.declared.func.Func.{Func}
 use Rattle.ir_types.specs.declared.module.Module.{Module}
 use Rattle.ir_types.specs.Formed.{given_ty, is_alloca, IsFormed}
 use Rattle.ir_types.proofs.Among.{same_is, same_itself, swapped}
 use Rattle.ir_model.specs.declared.value.Value.{Value}
-use Rattle.ir_model.specs.declared.value.Value.TheVariants.{Lane as LaneValue, Row as RowValue, Ptr as PtrValue}
-use Rattle.ir_model.specs.Values.{Lane, Env, same_id, value_of, type_of}
+use Rattle.ir_model.specs.declared.value.Value.TheVariants.{Lane as LaneValue, Row as RowValue}
+use Rattle.ir_model.specs.Values.{Lane, same_id, value_of, type_of}
 use Rattle.ir_model.specs.Memory.{Memory}
-use Rattle.ir_model.specs.Operations.{low}
 use Rattle.ir_model.specs.Accesses.{Effect, value_effect}
-use Rattle.ir_model.specs.Step.{State, Went, Lost, Halts, On, then_go, Back, Reached, Calls, back_with, called_or, callee_of, act, effect_of, step}
+use Rattle.ir_model.specs.Step.{Went, Lost, Halts, On, then_go, Back, Reached, Calls, back_with, called_or, callee_of, effect_of, step}
 use Rattle.ir_model.specs.Run.{is_terminator, exit_with, leave, run_insts, types_of}
-use Rattle.ir_model.specs.Shapes.{HasShape, CallsKeepShapes}
+use Rattle.ir_model.specs.Shapes.{CallsKeepShapes}
 use Rattle.ir_model.specs.Causes.{HasNoQuotient, DividesBadly, IsCause}
 use Rattle.ir_model.proofs.Acts.{BackRow}
 use Rattle.vx_view.specs.Answers.{is_value}
 use Rattle.vx_view.specs.Conflicts.{access_of, meet, is_division, is_call, minds_calls, conflict_in, depends}
-use Rattle.vx_serial.specs.Window.{order_in, joined}
-use Rattle.rf_order.specs.Rows.{steps, Instead, NoneBefore, Reordered}
-use Rattle.rf_order.specs.Swaps.{KeepsObjects, CallsKeepObjects, touch_of, AreNamed, MayPass, Stays}
+use Rattle.vx_serial.specs.Window.{joined}
+use Rattle.rf_order.specs.Rows.{steps, Instead, Reordered}
+use Rattle.rf_order.specs.Swaps.{CallsKeepObjects, touch_of, AreNamed, Stays}
 use Rattle.rf_order.specs.Steps.{uses, acts_in, AreFree, Passes, BothPlain, OverCall, CallOver}
-use Rattle.rf_order.specs.Windows.{AreOnce, ids_of, AreBundles}
-use Rattle.rf_order.specs.Ready.{Known, next, MayRun, MayRunAll, IsReady, AccessesKeepApart, NeighboursSwap, RowsRefine, WindowsRefine}
+use Rattle.rf_order.specs.Windows.{AreOnce, ids_of}
+use Rattle.rf_order.specs.Ready.{Known, next, MayRun, MayRunAll, IsReady, AccessesKeepApart, WindowsRefine}
 use Rattle.rf_order.proofs.Effects.{changes, reads, quiet_is, read_is, reads_kept, TouchSame}
 use Rattle.rf_order.proofs.Swaps.{effects_pass, pair_swaps}
 use Rattle.rf_order.proofs.Orders.{instead_then, reorder}
-use Rattle.rf_order.proofs.Shapes.{OpdsShape, run_shapes, named_of, shapes, row, step_ready}
+use Rattle.rf_order.proofs.Shapes.{run_shapes, named_of, row, step_ready}
 use Rattle.rf_order.proofs.Apart.{keep_apart}
 use Rattle.rf_order.proofs.Windows.{orders_reordered}
 
@@ -153,9 +151,10 @@ no_cause calls op t vs m left h e c = elim c [ ]
 
 all_same : (m : Module) (f : Func) (block : List Inst) (k l : Known) (is : List Inst) → ((z : Id) → k.values z ≡ l.values z) → MayRunAll m f block k is → MayRunAll m f block l is
 all_same m f block k l [] h v = tt
-all_same m f block k l (i ∷ is) h v =
-    (record { statement = v.0.statement; there = λ z u. sym (h z) ∙ v.0.there z u; fresh = sym (h i.id) ∙ v.0.fresh },
-    all_same m f block (next k i) (next l i) is (λ z. ap (λ b. same_id i.id z || b) (h z)) v.1)
+all_same m f block k l (i ∷ is) h v = (
+  record { statement = v.0.statement; there = λ z u. sym (h z) ∙ v.0.there z u; fresh = sym (h i.id) ∙ v.0.fresh },
+  all_same m f block (next k i) (next l i) is (λ z. ap (λ b. same_id i.id z || b) (h z)) v.1,
+)
 
 -- the second may run first
 run_first : (m : Module) (f : Func) (block : List Inst) (k : Known) (x y : Inst) → uses x.id y.opds ≡ false → MayRun m f block (next k x) y → MayRun m f block k y
@@ -254,8 +253,10 @@ module _ (m : Module) (f : Func) (formed : IsFormed m) (block : List Inst) (call
   rows k old new r re v ready =
       reorder next (MayRunAll m f block) (λ k r. IsReady m f block k r.state) (types_of f) calls (depends m block)
       (λ k i is v. v.1) (λ k i is js v w. (v.0, w))
-      (λ k x y is h v. (run_first m f block k x y (is_free m block x y h).unused v.1.0,
-      (run_then m f block k x y v.0 v.1.0, all_same m f block (next (next k x) y) (next (next k y) x) is (λ z. or_turn (same_id y.id z) (same_id x.id z) (k.values z)) v.1.1)))
+      (λ k x y is h v. (
+        run_first m f block k x y (is_free m block x y h).unused v.1.0,
+        (run_then m f block k x y v.0 v.1.0, all_same m f block (next (next k x) y) (next (next k y) x) is (λ z. or_turn (same_id y.id z) (same_id x.id z) (k.values z)) v.1.1),
+      ))
       (λ k i is r q v g e. step_ready m f formed block calls keep k i r q v.0 g e)
       (λ k x y is r v h g. neighbours k x y r v.0 v.1.0 h g)
       new old k r re v ready

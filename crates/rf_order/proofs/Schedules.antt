@@ -1,17 +1,17 @@
 -- What the schedule of groups gives: all places, each group behind those that it has links from.
-use Rattle.std.proofs.Common.{◌≡◌, refl, sym, ap, ◌∙◌, subst, ℕ, zero, suc, ◌+◌, ◌<◌, ◌≤◌, ◌==◌, ◌⊎◌, inl, inr, Bool, true, false, not, ◌&&◌, ◌||◌, cond, Option, None, Some, List, [], ◌∷◌, ◌++◌, length, length-append, append-nil, map, filter, find, min, nat_lt, slice_get, get_or, option_map, option_and_then, arith}
-use Rattle.std.specs.List.{list_all, range_with_len, position_or_len}
+use Rattle.std.proofs.Common.{◌≡◌, refl, sym, ap, ◌∙◌, ℕ, zero, suc, ◌+◌, ◌<◌, ◌≤◌, ◌==◌, ◌⊎◌, inl, inr, Bool, true, false, not, ◌||◌, cond, Option, None, Some, List, [], ◌∷◌, ◌++◌, length, length-append, append-nil, map, filter, find, min, nat_lt, slice_get, get_or, option_and_then, arith}
+use Rattle.std.specs.List.{list_all, range_with_len}
 use Rattle.std.proofs.lemmas.Bool.Decides.{nat_tests}
 use Rattle.std.proofs.lemmas.List.Folds.{find_at}
 use Rattle.std.proofs.lemmas.List.Sums.{sum_by-cons}
 use Rattle.vx_order.specs.Groups.{has, owner_of, position_of, least_of, least, least_from, size, positions, links_of}
-use Rattle.vx_order.specs.Order.{is_ready, next, place, order_on, order_of}
+use Rattle.vx_order.specs.Order.{is_ready, next, place}
 use Rattle.vx_order.specs.Walks.{Ascends}
 use Rattle.vx_order.proofs.Placing.{both, head_or_more, at_head, in_more}
 use Rattle.vx_order.proofs.Holding.{range_has}
 use Rattle.vx_serial.specs.Window.{joined}
 use Rattle.rf_order.specs.Rows.{Reordered}
-use Rattle.rf_order.proofs.Numbers.{true_false, same_number, number_itself, turned, has_append, or_cases, or_first, or_second, neither, not_true, has_front, has_back, has_part, has_none, Distinct, distinct_left, distinct_right, distinct_apart, distinct_both, fits, fills, ascends_distinct, also, Topological, topological_more, reordered, differ_of}
+use Rattle.rf_order.proofs.Numbers.{true_false, same_number, number_itself, has_append, or_first, or_second, not_true, has_front, has_back, has_part, Distinct, distinct_left, distinct_right, distinct_apart, distinct_both, fits, fills, ascends_distinct, also, Topological, topological_more, reordered}
 
 -- ---- places one after another
 
@@ -56,9 +56,10 @@ pub chosen_distinct : (nodes : List ℕ) (links : List (ℕ × ℕ)) (ws placed 
 chosen_distinct nodes links [] placed c = (tt, λ x h. absurd cc)
 chosen_distinct nodes links (w ∷ ws) placed c =
     let rest = chosen_distinct nodes links ws (placed ++ w ∷ []) c.2 in
-    let fresh : has placed w ≡ false = not_is (has placed w) (both (not (has placed w)) (list_all (λ l. not (l.1 == w) || has placed l.0) links) c.0).0 in
-    ((not_true (has ws w) (λ h. true_false (sym (has_back placed (w ∷ []) w (or_first (w == w) false (number_itself w))) ∙ rest.1 w h)), rest.0),
-    λ x h. by_first x rest fresh (head_or_more w x ws h))
+    let fresh : has placed w ≡ false = not_is (has placed w) (both (not (has placed w)) (list_all (λ l. not (l.1 == w) || has placed l.0) links) c.0).0 in (
+      (not_true (has ws w) (λ h. true_false (sym (has_back placed (w ∷ []) w (or_first (w == w) false (number_itself w))) ∙ rest.1 w h)), rest.0),
+      λ x h. by_first x rest fresh (head_or_more w x ws h),
+    )
   where
     by_first : (x : ℕ) → Distinct ws × ((x : ℕ) → has ws x ≡ true → has (placed ++ w ∷ []) x ≡ false) → has placed w ≡ false → (w ≡ x) ⊎ (has ws x ≡ true) → has placed x ≡ false
     by_first x rest fresh (inl e) = ap (has placed) (sym e) ∙ fresh
@@ -273,10 +274,11 @@ module _ (groups : List (List ℕ)) (n : ℕ) (edges : List (ℕ × ℕ)) (depen
     topo_group : (ys rest : List ℕ) (done : ℕ → Bool) → ((y : ℕ) → has ys y ≡ true → (x : ℕ) → x < y → depends y x ≡ true → done x ≡ true) →
         Topological depends (λ x. has ys x || done x) rest → Topological depends done (ys ++ rest)
     topo_group [] rest done h t = t
-    topo_group (y ∷ ys) rest done h t =
-        (h y (at_head y y ys refl),
-        topo_group ys rest (also done y) (λ z k x less d. or_second (y == x) (done x) (h z (in_more y z ys k) x less d))
-        (topological_more depends (λ x. has (y ∷ ys) x || done x) (λ x. has ys x || also done y x) rest (λ x k. moved (y == x) (has ys x) (done x) k) t))
+    topo_group (y ∷ ys) rest done h t = (
+      h y (at_head y y ys refl),
+      topo_group ys rest (also done y) (λ z k x less d. or_second (y == x) (done x) (h z (in_more y z ys k) x less d))
+          (topological_more depends (λ x. has (y ∷ ys) x || done x) (λ x. has ys x || also done y x) rest (λ x k. moved (y == x) (has ys x) (done x) k) t),
+    )
       where
         moved : (a b c : Bool) → ((a || b) || c) ≡ true → (b || (a || c)) ≡ true
         moved true b c h = or_second b true refl
@@ -309,7 +311,7 @@ module _ (groups : List (List ℕ)) (n : ℕ) (edges : List (ℕ × ℕ)) (depen
             let py : position_of groups y ≡ w = position_is groups y ∙ ap (λ k. least (get_or groups k [])) (owner_unique groups (owner_of groups w) y distinct h) ∙ sym (position_is groups w) ∙ pw in
             let links = (both (not (has placed w)) (list_all (λ l. not (l.1 == w) || has placed l.0) (links_of groups edges)) c.0).1 in
             let one : (not (position_of groups y == w) || has placed (position_of groups x)) ≡ true =
-                all_of (λ l. not (l.1 == w) || has placed l.0) (λ e. (position_of groups e.0, position_of groups e.1)) edges (x, y) links (edge x y less d) in
+            all_of (λ l. not (l.1 == w) || has placed l.0) (λ e. (position_of groups e.0, position_of groups e.1)) edges (x, y) links (edge x y less d) in
             in_flat placed (position_of groups x) x
             (second (position_of groups y == w) (has placed (position_of groups x)) (ap (λ k. k == w) py ∙ number_itself w) one) (stood x hx).holds
           where

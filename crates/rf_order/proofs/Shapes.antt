@@ -1,6 +1,6 @@
 -- Operands of what may run have their types' shapes, and a step keeps a state ready.
-use Rattle.std.proofs.Common.{◌≡◌, refl, sym, ap, ◌∙◌, subst, ℕ, ℤ, zero, suc, pos, ◌+◌, ◌<◌, ◌≤◌, ◌⊎◌, inl, inr, Bool, true, false, not, ◌&&◌, ◌||◌, cond, Option, None, Some, List, [], ◌∷◌, ◌++◌, length, length-append, map, nat_lt, slice_get, if◌then◌else◌, option_map, arith}
-use Rattle.std.specs.List.{AllZip, Contains}
+use Rattle.std.proofs.Common.{◌≡◌, refl, sym, ap, ◌∙◌, subst, ℕ, pos, ◌+◌, ◌<◌, ◌⊎◌, inl, inr, Bool, true, false, ◌&&◌, ◌||◌, cond, Option, None, Some, List, [], ◌∷◌, length, length-append, map, nat_lt, if◌then◌else◌, option_map, arith}
+use Rattle.std.specs.List.{AllZip}
 use Rattle.std.proofs.Math.Facts.{sfits_lit}
 use Rattle.std.proofs.lemmas.Bool.Decides.{nat_tests}
 use Rattle.ir_types.specs.declared.id.Id.{Id}
@@ -9,11 +9,9 @@ use Rattle.ir_types.specs.declared.ty.Ty.TheVariants.{Void, Int, Ptr, Row}
 use Rattle.ir_types.specs.declared.opd.Opd.{Opd}
 use Rattle.ir_types.specs.declared.opd.Opd.TheVariants.{Val, Lit, Sym}
 use Rattle.ir_types.specs.declared.op.Op.{Op}
-use Rattle.ir_types.specs.declared.op.Op.TheVariants.{Bin, Gep, Alloca, Load, Store, Call}
+use Rattle.ir_types.specs.declared.op.Op.TheVariants.{Bin, Gep, Alloca}
 use Rattle.ir_types.specs.declared.inst.Inst.{Inst}
-use Rattle.ir_types.specs.declared.func.Param.{Param}
 use Rattle.ir_types.specs.declared.func.Func.{Func}
-use Rattle.ir_types.specs.declared.module.Item.TheVariants.{Func as FuncItem}
 use Rattle.ir_types.specs.declared.module.Module.{Module}
 use Rattle.ir_types.specs.Typed.{is_value, lane_count, IsTyped}
 use Rattle.ir_types.specs.Formed.{given_ty, value_ty, opd_ty, IsOpd, is_alloca, IsCalling, IsFormed}
@@ -27,9 +25,8 @@ use Rattle.ir_model.specs.Operations.{bin_value}
 use Rattle.ir_model.specs.Addresses.{walked, address_value, kept_inside, is_inside, inbounds_value}
 use Rattle.ir_model.specs.Accesses.{Effect, fresh_object, alloca_effect}
 use Rattle.ir_model.specs.Sizes.{elem_size}
-use Rattle.ir_model.specs.Step.{State, Went, Lost, Halts, On, then_go, Back, Reached, Calls, back_with, callee_of, called_or, act, effect_of, set_result, reached_with, step}
-use Rattle.ir_model.specs.Run.{is_terminator, is_phi, types_of}
-use Rattle.ir_model.specs.Fits.{PointerFits}
+use Rattle.ir_model.specs.Step.{State, Went, Lost, Halts, On, then_go, Back, Reached, Calls, back_with, callee_of, called_or, act, effect_of, set_result, reached_with}
+use Rattle.ir_model.specs.Run.{is_phi, types_of}
 use Rattle.ir_model.specs.Shapes.{HasShape, ResultHasShape, CallsKeepShapes}
 use Rattle.ir_model.specs.Causes.{IsCause}
 use Rattle.ir_model.proofs.Acts.{BackRow, KeptBack, acts}
@@ -39,7 +36,7 @@ use Rattle.ir_model.proofs.Sound.{params_formed}
 use Rattle.vx_view.specs.Answers.{find}
 use Rattle.vx_view.specs.Conflicts.{Kind, Allocated, Global, Alone, Argument, Unknown, kind_of, never_meet, same_root}
 use Rattle.rf_order.specs.Swaps.{IsNamed, AreNamed}
-use Rattle.rf_order.specs.Steps.{uses, acts_in}
+use Rattle.rf_order.specs.Steps.{uses}
 use Rattle.rf_order.specs.Ready.{Known, next, IsIn, IsStatement, MayRun, formula, has_formula, IsComputed, has_kind, NamesOne, NameOthers, is_known, RootsApart, IsReady, StepsKeepReady}
 use Rattle.rf_order.proofs.Effects.{read_is}
 use Rattle.rf_order.proofs.Swaps.{values_other}
@@ -413,7 +410,7 @@ module _ (m : Module) (f : Func) (formed : IsFormed m) (block : List Inst) (call
           (new_apart b old (ap (λ o. same_root o b) (sym e) ∙ differ) (ap (λ o. never_meet (kind_of m o) (kind_of m b)) (sym e) ∙ never))
       by_case (inr old) (inl d) =
           let h : NameOthers (pointer_of (New i.id)) (pointer_of (value_of New a)) =
-              new_apart a old (turn_root (Val i.id) a ∙ ap (same_root a) (sym d) ∙ differ) (turn_kinds (kind_of m a) (kind_of m (Val i.id)) (ap (λ o. never_meet (kind_of m a) (kind_of m o)) (sym d) ∙ never)) in
+          new_apart a old (turn_root (Val i.id) a ∙ ap (same_root a) (sym d) ∙ differ) (turn_kinds (kind_of m a) (kind_of m (Val i.id)) (ap (λ o. never_meet (kind_of m a) (kind_of m o)) (sym d) ∙ never)) in
           λ o z y ea eb. h o y z (ap (λ x. pointer_of (value_of New x)) (sym d) ∙ eb) ea
       by_case (inr old) (inr also) = λ o z y ea eb. ready.roots a b old.0 also.0 differ never o z y (ap pointer_of (sym old.1) ∙ ea) (ap pointer_of (sym also.1) ∙ eb)
 

@@ -1,5 +1,5 @@
 -- The start of a function on arguments that fit: parameters and globals stand apart where their kinds never meet.
-use Rattle.std.proofs.Common.{◌≡◌, refl, sym, ap, ◌∙◌, subst, ℕ, ℤ, zero, suc, pos, ◌+◌, ◌<◌, ◌≤◌, ◌⊎◌, inl, inr, Bool, true, false, not, ◌&&◌, ◌||◌, cond, Option, None, Some, List, [], ◌∷◌, ◌++◌, length, map, nat_eq, nat_le, nat_lt, slice_get, if◌then◌else◌, arith}
+use Rattle.std.proofs.Common.{◌≡◌, refl, sym, ap, ◌∙◌, subst, ℕ, ℤ, zero, suc, ◌<◌, ◌≤◌, ◌⊎◌, inl, inr, Bool, true, false, not, ◌&&◌, ◌||◌, cond, None, Some, List, [], ◌∷◌, ◌++◌, length, map, nat_eq, nat_le, nat_lt, slice_get, if◌then◌else◌, arith}
 use Rattle.std.specs.List.{list_any}
 use Rattle.std.proofs.lemmas.Bool.Decides.{nat_tests}
 use Rattle.ir_types.specs.declared.id.Id.{Id}
@@ -13,22 +13,22 @@ use Rattle.ir_types.specs.declared.module.Item.{Item}
 use Rattle.ir_types.specs.declared.module.Item.TheVariants.{Kept, Opaque, Func as FuncItem}
 use Rattle.ir_types.specs.declared.module.Module.{Module}
 use Rattle.ir_types.specs.Typed.{is_value}
-use Rattle.ir_types.specs.Available.{is_param, stands_on}
-use Rattle.ir_types.specs.Formed.{or_else, ty_in_params, ty_in_blocks, value_ty, block_ids, item_ids, ids_of_items, ids_of, IsFormedItem, IsFormed}
+use Rattle.ir_types.specs.Available.{stands_on}
+use Rattle.ir_types.specs.Formed.{or_else, ty_in_params, ty_in_blocks, block_ids, item_ids, ids_of_items, IsFormedItem, IsFormed}
 use Rattle.ir_types.proofs.Formed.{Every, every_at, every_of_all}
-use Rattle.ir_types.proofs.Among.{among, same_is, same_itself, swapped, among_left, among_right, Once, once_of_pairs}
+use Rattle.ir_types.proofs.Among.{among, same_is, swapped, among_left, among_right, Once, once_of_pairs}
 use Rattle.ir_model.specs.declared.value.Value.{Value}
 use Rattle.ir_model.specs.declared.value.Value.TheVariants.{Lane as LaneValue, Row as RowValue, Ptr as PtrValue}
 use Rattle.ir_model.specs.Values.{Lane, Pointer, Env, same_id, pointer_of, literal_value, value_of}
 use Rattle.ir_model.specs.Memory.{Memory}
-use Rattle.ir_model.specs.Run.{start_env, names, is_unshared, noalias_holds, functions_of}
+use Rattle.ir_model.specs.Run.{start_env, names, is_unshared, noalias_holds}
 use Rattle.ir_model.specs.Fits.{Fits}
 use Rattle.ir_model.specs.Shapes.{HasShape}
-use Rattle.ir_model.proofs.Ids.{once_left, once_right, once_apart}
+use Rattle.ir_model.proofs.Ids.{once_right, once_apart}
 use Rattle.ir_model.proofs.Walked.{stands_start}
 use Rattle.ir_model.proofs.Sound.{start_shape, found_item}
 use Rattle.vx_view.specs.Answers.{funcs_of, param_in, either, param_of, found}
-use Rattle.vx_view.specs.Conflicts.{Kind, Allocated, Global, Alone, Argument, Unknown, param_kind, value_kind, kind_of, never_meet, same_root}
+use Rattle.vx_view.specs.Conflicts.{Kind, Global, Unknown, param_kind, value_kind, kind_of, never_meet}
 use Rattle.vx_view.proofs.Edits.{lacks_left}
 use Rattle.rf_order.specs.Ready.{has_kind, NamesOne, NameOthers, is_known, RootsApart}
 use Rattle.rf_order.specs.Blocks.{IsEntered, StartsAreEntered}
@@ -158,7 +158,7 @@ alone globals (q ∷ ps) (w ∷ vs) before h x p e noalias o z v =
     here same n is =
         let f = first n is in
         let none : list_any (names o) before || list_any (names o) vs ≡ false =
-            sym (any_append o before vs) ∙ not_false (list_any (names o) (before ++ vs)) (and_right (nat_le globals o) (not (list_any (names o) (before ++ vs))) f) in
+        sym (any_append o before vs) ∙ not_false (list_any (names o) (before ++ vs)) (and_right (nat_le globals o) (not (list_any (names o) (before ++ vs))) f) in
         record {
           no_global = (let l = and_left (nat_le globals o) (not (list_any (names o) (before ++ vs))) f in grind (arith, nat_tests));
           none_before = or_left (list_any (names o) before) (list_any (names o) vs) none;

@@ -1,5 +1,5 @@
 -- Where the symbol of an address leads: back over sums with a literal.
-use Rattle.std.proofs.Common.{◌≡◌, refl, sym, ap, ◌∙◌, subst, ℕ, ℤ, zero, suc, pos, ◌+ℤ◌, ◌*ℤ◌, ◌+◌, ◌*◌, ◌%◌, ◌^◌, ◌<◌, ◌≤◌, ◌==◌, ◌⊎◌, inl, inr, Bool, true, false, not, ◌&&◌, ◌||◌, cond, Option, None, Some, List, [], ◌∷◌, length, map, nat_eq, if◌then◌else◌, option_map, arith}
+use Rattle.std.proofs.Common.{◌≡◌, refl, sym, ap, ◌∙◌, subst, ℕ, ℤ, zero, suc, pos, ◌+ℤ◌, ◌*ℤ◌, ◌+◌, ◌*◌, ◌%◌, ◌^◌, ◌==◌, ◌⊎◌, inl, inr, Bool, true, false, not, ◌&&◌, ◌||◌, Option, None, Some, List, [], ◌∷◌, length, map, if◌then◌else◌, arith}
 use Rattle.std.specs.Int.{w64, int_wrap}
 use Rattle.std.specs.List.{AllZip}
 use Rattle.std.specs.Int.Bits.{bit_or, bit_and, or_add_and}
@@ -9,9 +9,9 @@ use Rattle.vx_num.specs.declared.operations.BinOp.{BinOp}
 use Rattle.vx_num.specs.declared.operations.BinOp.TheVariants.{Add, Or}
 use Rattle.vx_num.specs.declared.operations.Flags.{Flags}
 use Rattle.vx_num.specs.Width.{signed}
-use Rattle.vx_num.specs.Flagged.{keeps, no_wrap, apart}
+use Rattle.vx_num.specs.Flagged.{apart}
 use Rattle.vx_num.specs.Sums.{add_of}
-use Rattle.vx_num.specs.Bin.{lane_of, or_of}
+use Rattle.vx_num.specs.Bin.{lane_of}
 use Rattle.vx_num.specs.Advance.{advance_of}
 use Rattle.ir_types.specs.declared.id.Id.{Id}
 use Rattle.ir_types.specs.declared.ty.Ty.{Ty}
@@ -23,14 +23,14 @@ use Rattle.ir_types.specs.declared.op.Op.TheVariants.{Bin}
 use Rattle.ir_types.specs.declared.inst.Inst.{Inst}
 use Rattle.ir_types.specs.declared.func.Func.{Func}
 use Rattle.ir_types.specs.declared.module.Module.{Module}
-use Rattle.ir_types.specs.Typed.{is_number, is_value, has_flags, IsTyped}
+use Rattle.ir_types.specs.Typed.{is_number, has_flags, IsTyped}
 use Rattle.ir_types.specs.Formed.{given_ty, opd_ty, value_ty, IsFormed}
 use Rattle.ir_types.proofs.Among.{same_is}
 use Rattle.ir_types.proofs.Formed.{Every, IsValued, typed_valued}
 use Rattle.ir_model.proofs.Sound.{params_formed}
 use Rattle.ir_model.specs.declared.value.Value.{Value}
-use Rattle.ir_model.specs.declared.value.Value.TheVariants.{Lane as LaneValue, Row as RowValue, Ptr as PtrValue}
-use Rattle.ir_model.specs.Values.{Lane, Pointer, Env, pointer_of, literal_value, value_of, type_of}
+use Rattle.ir_model.specs.declared.value.Value.TheVariants.{Lane as LaneValue, Ptr as PtrValue}
+use Rattle.ir_model.specs.Values.{Lane, Pointer, literal_value, value_of, type_of}
 use Rattle.ir_model.specs.Operations.{low, bin_value}
 use Rattle.ir_model.specs.Step.{State}
 use Rattle.ir_model.specs.Run.{is_phi, types_of}
@@ -39,11 +39,11 @@ use Rattle.ir_model.proofs.Acts.{same_types}
 use Rattle.ir_model.proofs.Indices.{wrap-low, wrap-signed, wrap-factor}
 use Rattle.ir_model.proofs.Ids.{types_agree}
 use Rattle.vx_view.specs.Answers.{find}
-use Rattle.vx_view.specs.Addresses.{Symbol, Offset, Form, Summand, Number, Poison, Value as ValueSummand, Other, summand_of, summand, plus, summed, is_sum, is_wide, summed_by, sum_back, back_from, symbol_back, or_stay, Walked, pointers, symbols, form_of, start, form_in}
+use Rattle.vx_view.specs.Addresses.{Symbol, Offset, Summand, Number, Poison, Value as ValueSummand, Other, summand_of, summand, plus, summed, is_sum, is_wide, summed_by, sum_back, back_from, symbol_back, or_stay, symbols}
 use Rattle.rf_order.specs.Steps.{uses}
-use Rattle.rf_order.specs.Ready.{Known, IsIn, IsStatement, formula, has_formula, IsComputed, is_known, IsReady}
+use Rattle.rf_order.specs.Ready.{Known, IsIn, IsStatement, formula, has_formula, is_known, IsReady}
 use Rattle.rf_order.proofs.Shapes.{OpdsShape}
-use Rattle.rf_order.proofs.Addresses.{scaled, symbol_value, led_to, led_none, two_opds, lane_shape, find_id, leads, KnownSymbol, known_opd, uses_here, uses_later, shapes_of, ran_for, LedTo}
+use Rattle.rf_order.proofs.Addresses.{scaled, symbol_value, led_to, led_none, two_opds, lane_shape, find_id, KnownSymbol, known_opd, uses_here, uses_later, shapes_of, ran_for}
 
 true_false : true ≡ false → ⊥
 true_false e = cc
@@ -142,9 +142,9 @@ or_sum f (Some p) (Some q) d = by_test (bit_and (p % 2 ^ 64) (q % 2 ^ 64) == 0) 
   by_test : (b : Bool) → (bit_and (p % 2 ^ 64) (q % 2 ^ 64) == 0) ≡ b → SumOf (Some p) (Some q) (apart f (bit_and (p % 2 ^ 64) (q % 2 ^ 64) == 0) (bit_or (p % 2 ^ 64) (q % 2 ^ 64)))
   by_test true e =
       inr (p, q, bit_or (p % 2 ^ 64) (q % 2 ^ 64), refl, refl, ap (λ b. apart f b (bit_or (p % 2 ^ 64) (q % 2 ^ 64))) e ∙ kept f.disjoint, ap (λ n. W (pos n)) (number e)) where
-    kept : (b : Bool) → (if not b || true then Some (bit_or (p % 2 ^ 64) (q % 2 ^ 64)) else None) ≡ Some (bit_or (p % 2 ^ 64) (q % 2 ^ 64))
-    kept true = refl
-    kept false = refl
+        kept : (b : Bool) → (if not b || true then Some (bit_or (p % 2 ^ 64) (q % 2 ^ 64)) else None) ≡ Some (bit_or (p % 2 ^ 64) (q % 2 ^ 64))
+        kept true = refl
+        kept false = refl
   by_test false e = inl (ap (λ b. apart f b (bit_or (p % 2 ^ 64) (q % 2 ^ 64))) e ∙ ap (λ b. if not b || false then Some (bit_or (p % 2 ^ 64) (q % 2 ^ 64)) else None) d)
 
 -- what a sum gives
@@ -376,10 +376,10 @@ module _ (m : Module) (f : Func) (formed : IsFormed m) (block : List Inst) (k : 
     }
     by_computed (inr z) =
         let v : bin_value op flags (Int 64) (LaneValue xl.0 ∷ LaneValue yl.0 ∷ []) ≡ Some (s.env x) =
-            ap (λ v. bin_value op flags (Int 64) (v ∷ LaneValue yl.0 ∷ [])) (sym xl.1) ∙ ap (λ v. bin_value op flags (Int 64) (value_of s.env os.0 ∷ v ∷ [])) (sym yl.1)
-            ∙ ap (λ os. bin_value op flags (Int 64) (map (value_of s.env) os)) (sym os.2)
-            ∙ ap (λ t. bin_value op flags t (map (value_of s.env) i.opds)) (sym ty)
-            ∙ ap (λ op. formula op i.ty (map (type_of types) i.opds) (map (value_of s.env) i.opds)) (sym is) ∙ z ∙ ap (λ x. Some (s.env x)) same in
+        ap (λ v. bin_value op flags (Int 64) (v ∷ LaneValue yl.0 ∷ [])) (sym xl.1) ∙ ap (λ v. bin_value op flags (Int 64) (value_of s.env os.0 ∷ v ∷ [])) (sym yl.1)
+        ∙ ap (λ os. bin_value op flags (Int 64) (map (value_of s.env) os)) (sym os.2)
+        ∙ ap (λ t. bin_value op flags t (map (value_of s.env) i.opds)) (sym ty)
+        ∙ ap (λ op. formula op i.ty (map (type_of types) i.opds) (map (value_of s.env) i.opds)) (sym is) ∙ z ∙ ap (λ x. Some (s.env x)) same in
         let r = bin_sum op flags xl.0 yl.0 (s.env x) sum v in
         with_value r.0 r.1 r.2
 

@@ -1,7 +1,6 @@
 -- Two neighbouring operations in the other order, and two neighbouring instructions.
-use Rattle.std.proofs.Common.{◌≡◌, refl, sym, ap, ◌∙◌, subst, ℕ, ℤ, pos, ◌+◌, ◌*◌, ◌<◌, ◌≤◌, ◌⊎◌, inl, inr, Bool, true, false, not, ◌&&◌, ◌||◌, cond, Option, None, Some, List, [], ◌∷◌, ◌++◌, length, drop, map, slice_get, slice_set, option_map, arith, length-append}
+use Rattle.std.proofs.Common.{◌≡◌, refl, sym, ap, ◌∙◌, subst, ℕ, ℤ, pos, ◌+◌, ◌*◌, ◌<◌, ◌≤◌, ◌⊎◌, inl, inr, Bool, true, false, ◌&&◌, ◌||◌, cond, Option, None, Some, List, [], ◌∷◌, ◌++◌, length, drop, map, slice_get, slice_set, arith, length-append}
 use Rattle.std.proofs.Math.Path.{fun_ext}
-use Rattle.std.specs.List.{list_any}
 use Rattle.ir_types.specs.declared.id.Id.{Id}
 use Rattle.ir_types.specs.declared.ty.Ty.{Ty}
 use Rattle.ir_types.specs.declared.ty.Ty.TheVariants.{Void, Int, Ptr, Row}
@@ -14,18 +13,18 @@ use Rattle.ir_types.specs.declared.inst.Inst.{Inst}
 use Rattle.ir_types.specs.Formed.{is_alloca}
 use Rattle.ir_model.specs.declared.value.Value.{Value}
 use Rattle.ir_model.specs.declared.value.Value.TheVariants.{Lane as LaneValue, Row as RowValue, Ptr as PtrValue}
-use Rattle.ir_model.specs.Values.{Lane, Pointer, Env, pointer_of, value_of, type_of, same_id, with_value}
+use Rattle.ir_model.specs.Values.{Lane, Pointer, Env, pointer_of, value_of, type_of, same_id}
 use Rattle.ir_model.specs.Memory.{Object, Memory, put, lane_bytes, row_bytes, stored}
-use Rattle.ir_model.specs.Sizes.{bytes_in, size_of, elem_size}
-use Rattle.ir_model.specs.Accesses.{Effect, value_effect, memory_effect, bytes_of, store_effect, fresh_object, alloca_effect}
-use Rattle.ir_model.specs.Step.{State, Went, Lost, Halts, On, then_go, Back, Reached, Calls, effect_of, callee_of, back_with, called_or, act, set_result, reached_with, step}
+use Rattle.ir_model.specs.Sizes.{bytes_in, elem_size}
+use Rattle.ir_model.specs.Accesses.{Effect, memory_effect, bytes_of, store_effect, fresh_object, alloca_effect}
+use Rattle.ir_model.specs.Step.{Went, Lost, Halts, On, then_go, Back, Reached, Calls, effect_of, callee_of, back_with, called_or, set_result, reached_with, step}
 use Rattle.ir_model.proofs.Lists.{length-lane_bytes}
-use Rattle.ir_model.proofs.Stores.{IsPlace, IsStored, stored-is, is-stored}
+use Rattle.ir_model.proofs.Stores.{IsStored, stored-is, is-stored}
 use Rattle.ir_model.proofs.Finer.{length_set}
 use Rattle.rf_order.specs.Rows.{steps, Instead}
-use Rattle.rf_order.specs.Swaps.{KeepsObjects, CallsKeepObjects, Touch, stored_size, touch_of, AreApart, KeepApart, IsNamed, AreNamed, Acts, Swapped, MayPass, Stays}
-use Rattle.rf_order.specs.Steps.{uses, acts_in, AreFree, Passes, BothPlain, OverCall, CallOver, StepsSwap}
-use Rattle.rf_order.proofs.Lists.{get_front, get_length, set_front, get_within}
+use Rattle.rf_order.specs.Swaps.{KeepsObjects, CallsKeepObjects, Touch, stored_size, touch_of, AreApart, KeepApart, AreNamed, Acts, MayPass, Stays}
+use Rattle.rf_order.specs.Steps.{uses, acts_in, AreFree, BothPlain, OverCall, CallOver, StepsSwap}
+use Rattle.rf_order.proofs.Lists.{get_front, set_front, get_within}
 use Rattle.rf_order.proofs.Effects.{changes, reads, quiet_is, read_is, reading, reading_first, reading_second, TouchSame, reads_kept, keeps_itself, stored_keeps, alloca_keeps, alloca_same, stored_same, stores_swap}
 
 true_false : true ≡ false → ⊥
@@ -242,7 +241,7 @@ alloca_store align t types vs elem m named a b ex ey =
     let n = slice_set m s.object (put s.bytes st.at st.object) in
     let long : length n ≡ length m = length_set m s.object (put s.bytes st.at st.object) in
     let left : b.memory ≡ n ++ fresh_object (elem_size elem) ∷ [] =
-        st.left ∙ ap (λ (k : Memory). slice_set k s.object (put s.bytes st.at st.object)) made ∙ set_front m (fresh_object (elem_size elem) ∷ []) s.object st.object (put s.bytes st.at st.object) found in
+    st.left ∙ ap (λ (k : Memory). slice_set k s.object (put s.bytes st.at st.object)) made ∙ set_front m (fresh_object (elem_size elem) ∷ []) s.object st.object (put s.bytes st.at st.object) found in
     record {
       between = n;
       before = ap (λ us. effect_of (Store align) t types us m) s.operands
@@ -423,11 +422,11 @@ module _ (types : Id → Ty) (calls : Calls) (x y : Inst) (env : Env) (m : Memor
     by_second a ea (Some b) eb =
         let s = pass a b ea eb in
         let old = two_steps types calls x y Here (after env x.id a.result a.memory left) (after (set_result env x.id a.result) y.id b.result b.memory left)
-            (step_on types calls x env m left a.result a.memory ex ea)
-            (step_on types calls y (set_result env x.id a.result) a.memory left b.result b.memory ey (acts_other types env x.id a.result y a.memory free.second_free ∙ eb)) in
+        (step_on types calls x env m left a.result a.memory ex ea)
+        (step_on types calls y (set_result env x.id a.result) a.memory left b.result b.memory ey (acts_other types env x.id a.result y a.memory free.second_free ∙ eb)) in
         let new = two_steps types calls y x Here (after env y.id b.result s.between left) (after (set_result env y.id b.result) x.id a.result b.memory left)
-            (step_on types calls y env m left b.result s.between ey s.before)
-            (step_on types calls x (set_result env y.id b.result) s.between left a.result b.memory ex (acts_other types env y.id b.result x s.between free.first_free ∙ s.then)) in
+        (step_on types calls y env m left b.result s.between ey s.before)
+        (step_on types calls x (set_result env y.id b.result) s.between left a.result b.memory ex (acts_other types env y.id b.result x s.between free.first_free ∙ s.then)) in
         inr (new ∙ ap (λ (e : Env). On (record { state = record { env = e; memory = b.memory }; left = left })) (sym (results_comm env x.id y.id a.result b.result free.differ)) ∙ sym old)
 
     by_first : (a : Option Effect) → acts_in types env x m ≡ a → Instead (steps types calls (y ∷ x ∷ []) Here) (steps types calls (x ∷ y ∷ []) Here)
@@ -462,9 +461,9 @@ module _ (types : Id → Ty) (calls : Calls) (x y : Inst) (env : Env) (m : Memor
         inr (halts_second types calls y x Here (after env y.id stays.result m left) n first (new_step (Halts n) e) ∙ sym (halts_first types calls x y Here n (old_step (Halts n) e)))
     by_call (On back) e =
         let old = two_steps types calls x y Here (after env x.id back.result back.memory back.left) (after (set_result env x.id back.result) y.id stays.result back.memory back.left)
-            (old_step (On back) e)
-            (step_on types calls y (set_result env x.id back.result) back.memory back.left stays.result back.memory ey
-            (acts_other types env x.id back.result y back.memory free.second_free ∙ stays.same back.memory (keep callee (map (value_of env) x.opds) m left back e))) in
+        (old_step (On back) e)
+        (step_on types calls y (set_result env x.id back.result) back.memory back.left stays.result back.memory ey
+        (acts_other types env x.id back.result y back.memory free.second_free ∙ stays.same back.memory (keep callee (map (value_of env) x.opds) m left back e))) in
         let new = two_steps types calls y x Here (after env y.id stays.result m left) (after (set_result env y.id stays.result) x.id back.result back.memory back.left) first (new_step (On back) e) in
         inr (new ∙ ap (λ (e : Env). On (record { state = record { env = e; memory = back.memory }; left = back.left })) (sym (results_comm env x.id y.id back.result stays.result free.differ)) ∙ sym old)
 
@@ -491,9 +490,9 @@ module _ (types : Id → Ty) (calls : Calls) (x y : Inst) (env : Env) (m : Memor
     by_call (On back) e =
         let old = two_steps types calls x y Here (after env x.id stays.result m left) (after (set_result env x.id stays.result) y.id back.result back.memory back.left) first (old_step (On back) e) in
         let new = two_steps types calls y x Here (after env y.id back.result back.memory back.left) (after (set_result env y.id back.result) x.id stays.result back.memory back.left)
-            (new_step (On back) e)
-            (step_on types calls x (set_result env y.id back.result) back.memory back.left stays.result back.memory ex
-            (acts_other types env y.id back.result x back.memory free.first_free ∙ stays.same back.memory (keep callee (map (value_of env) y.opds) m left back e))) in
+        (new_step (On back) e)
+        (step_on types calls x (set_result env y.id back.result) back.memory back.left stays.result back.memory ex
+        (acts_other types env y.id back.result x back.memory free.first_free ∙ stays.same back.memory (keep callee (map (value_of env) y.opds) m left back e))) in
         inr (new ∙ ap (λ (e : Env). On (record { state = record { env = e; memory = back.memory }; left = back.left })) (sym (results_comm env x.id y.id stays.result back.result free.differ)) ∙ sym old)
 
 pub pair_swaps : StepsSwap

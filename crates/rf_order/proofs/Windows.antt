@@ -1,5 +1,5 @@
 -- The window of bundles in its order: its places, its groups and its edges, and the instructions that stand there.
-use Rattle.std.proofs.Common.{◌≡◌, refl, sym, ap, ◌∙◌, subst, ℕ, zero, suc, ◌+◌, ◌<◌, ◌≤◌, ◌==◌, ◌⊎◌, inl, inr, Bool, true, false, not, ◌&&◌, ◌||◌, cond, Option, None, Some, List, [], ◌∷◌, ◌++◌, length, length-append, append-nil, map, nat_lt, slice_get, get_or, option_map, arith}
+use Rattle.std.proofs.Common.{◌≡◌, refl, sym, ap, ◌∙◌, subst, ℕ, zero, suc, ◌+◌, ◌<◌, ◌≤◌, ◌==◌, ◌⊎◌, inl, inr, Bool, true, false, ◌||◌, cond, Option, None, Some, List, [], ◌∷◌, ◌++◌, length, length-append, map, nat_lt, slice_get, get_or, option_map, arith}
 use Rattle.std.specs.List.{list_any}
 use Rattle.std.proofs.lemmas.Bool.Decides.{nat_tests}
 use Rattle.ir_types.specs.declared.id.Id.{Id}
@@ -8,15 +8,15 @@ use Rattle.ir_types.specs.declared.module.Module.{Module}
 use Rattle.ir_types.specs.Available.{same_id}
 use Rattle.ir_types.proofs.Among.{same_is, same_itself, swapped}
 use Rattle.vx_order.specs.Groups.{has, owner_of, positions, links_of}
-use Rattle.vx_order.specs.Order.{order_on, order_of}
+use Rattle.vx_order.specs.Order.{order_on}
 use Rattle.vx_order.specs.Walks.{Ascends}
 use Rattle.vx_order.proofs.Placing.{head_or_more, at_head, in_more}
 use Rattle.vx_view.specs.Conflicts.{depends}
-use Rattle.vx_serial.specs.Window.{is_member, place_of, singles, groups_in, edges_from, edges_in, with_inst, insts_at, order_in, joined}
+use Rattle.vx_serial.specs.Window.{is_member, place_of, singles, groups_in, edges_from, edges_in, with_inst, insts_at, joined}
 use Rattle.rf_order.specs.Rows.{NoneBefore, Reordered}
 use Rattle.rf_order.specs.Windows.{AreOnce, ids_of, AreBundles, OrdersReorder}
-use Rattle.rf_order.proofs.Numbers.{true_false, same_number, number_itself, or_cases, or_first, or_second, neither, not_true, has_front, has_back, has_part, has_none, Distinct, distinct_both, ascends_distinct, ascends_from}
-use Rattle.rf_order.proofs.Schedules.{Chosen, Placed, place_is, group_of, Stands, flat, flat_reordered}
+use Rattle.rf_order.proofs.Numbers.{true_false, or_cases, or_first, or_second, not_true, has_front, has_back, has_part, Distinct, distinct_both, ascends_distinct}
+use Rattle.rf_order.proofs.Schedules.{place_is, group_of, Stands, flat_reordered}
 
 -- ---- the instructions of places
 
@@ -51,10 +51,13 @@ module _ (m : Module) (block insts : List Inst) where
     by_inst None e more =
         subst (λ l. Reordered (depends m block) l (insts_at insts ys))
         (insts_append insts f rest ∙ ap (λ l. insts_at insts f ++ l) (ap (λ o. with_inst o (insts_at insts rest)) (sym e)) ∙ sym (insts_append insts f (y ∷ rest)) ∙ ap (insts_at insts) (sym is)) more
-    by_inst (Some i) e more =
-        (insts_at insts f, insts_at insts rest,
-        ap (insts_at insts) is ∙ insts_append insts f (y ∷ rest) ∙ ap (λ o. insts_at insts f ++ with_inst o (insts_at insts rest)) e,
-        none_before f y i e none, subst (λ l. Reordered (depends m block) l (insts_at insts ys)) (insts_append insts f rest) more)
+    by_inst (Some i) e more = (
+      insts_at insts f,
+      insts_at insts rest,
+      ap (insts_at insts) is ∙ insts_append insts f (y ∷ rest) ∙ ap (λ o. insts_at insts f ++ with_inst o (insts_at insts rest)) e,
+      none_before f y i e none,
+      subst (λ l. Reordered (depends m block) l (insts_at insts ys)) (insts_append insts f rest) more,
+    )
 
 -- ---- all places
 
@@ -243,13 +246,14 @@ one_place insts x y hx hy e =
 
 places_distinct : (insts : List Inst) (ids : List Id) → AreOnce ids → ((x : Id) → list_any (same_id x) ids ≡ true → list_any (same_id x) (ids_of insts) ≡ true) → Distinct (map (place_of insts) ids)
 places_distinct insts [] once h = tt
-places_distinct insts (x ∷ ids) once h =
-    (not_true (has (map (place_of insts) ids) (place_of insts x)) (λ k.
-    (let r = placed_by insts ids (place_of insts x) k in
-    let same : same_id x r.id ≡ true = one_place insts x r.id (h x (or_first (same_id x x) (list_any (same_id x) ids) (same_itself x)))
-        (h r.id (or_second (same_id r.id x) (list_any (same_id r.id) ids) r.there)) (sym r.is) in
-    true_false (sym (any_same ids x r.id same ∙ r.there) ∙ once.0))),
-    places_distinct insts ids once.1 (λ y k. h y (or_second (same_id y x) (list_any (same_id y) ids) k)))
+places_distinct insts (x ∷ ids) once h = (
+  not_true (has (map (place_of insts) ids) (place_of insts x)) (λ k.
+      (let r = placed_by insts ids (place_of insts x) k in
+      let same : same_id x r.id ≡ true = one_place insts x r.id (h x (or_first (same_id x x) (list_any (same_id x) ids) (same_itself x)))
+      (h r.id (or_second (same_id r.id x) (list_any (same_id r.id) ids) r.there)) (sym r.is) in
+      true_false (sym (any_same ids x r.id same ∙ r.there) ∙ once.0))),
+  places_distinct insts ids once.1 (λ y k. h y (or_second (same_id y x) (list_any (same_id y) ids) k)),
+)
 
 -- ---- singles
 

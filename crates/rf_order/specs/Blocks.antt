@@ -1,5 +1,5 @@
 -- A block that is entered: its phis have run, what stands has its type's shape, and roots of kinds that never meet name different objects.
-use Rattle.std.specs.Prelude.{◌≡◌, refl, ℕ, ◌<◌, true, false, Option, None, Some, List, [], ◌∷◌, ◌++◌, length, slice_get, ⊤}
+use Rattle.std.specs.Prelude.{◌≡◌, ℕ, true, false, Option, None, Some, List, [], ◌∷◌, ◌++◌, length, slice_get, ⊤}
 use Rattle.std.specs.List.{Contains}
 use Rattle.ir_types.specs.declared.id.Id.{Id}
 use Rattle.ir_types.specs.declared.opd.Opd.{Opd}
@@ -103,3 +103,11 @@ abbrev pub PhisAreEntered : Type 0
 PhisAreEntered =
     (m : Module) (f : Func) (walk : List ℕ) (at : ℕ) (b : Block) (phis before insts : List Inst) (last : Inst) (after : List Inst) → IsCut m f walk at b phis before insts last after →
     (from : Option ℕ) (r q : Reached) → CameFrom m f walk at from r.state → IsEntered m f walk 0 r.state → run_phis from r.state.env phis r ≡ On q → IsEntered m f walk (length phis) q.state
+
+-- and it is entered on a walk that is longer by one block, from this one
+abbrev pub ExitsLeadOn : Type 0
+ExitsLeadOn =
+    (m : Module) (f : Func) (walk : List ℕ) (at : ℕ) (b : Block) (phis insts : List Inst) (last : Inst) → IsCut m f walk at b phis [] insts last [] →
+    (calls : Calls) → CallsKeepShapes m calls → (r q : Reached) (to : ℕ) → IsEntered m f walk (length phis) r.state →
+    run_insts (types_of f) calls (insts ++ last ∷ []) r ≡ On (To to q) →
+    IsWalk (graph_of f) (walk ++ to ∷ []) × EndsAt (walk ++ to ∷ []) to × CameFrom m f (walk ++ to ∷ []) to (Some at) q.state

@@ -3,8 +3,8 @@
 -- Known are ids whose values are there, and the instructions of the block that have run on this way to the place. A state is ready where
 -- each known value has its type's shape, each address and sum that has run is what its operands make it, and roots of kinds that never
 -- meet name different objects. A step of an instruction that may run keeps this.
-use Rattle.std.specs.Prelude.{◌≡◌, refl, ℕ, ℤ, ◌<◌, ◌≤◌, ◌⊎◌, Bool, true, false, ◌||◌, cond, nat_lt, Option, None, Some, List, [], ◌∷◌, ◌++◌, length, map, ⊤}
-use Rattle.std.specs.List.{All, Contains}
+use Rattle.std.specs.Prelude.{◌≡◌, ℕ, ℤ, ◌<◌, ◌≤◌, ◌⊎◌, Bool, true, false, ◌||◌, cond, nat_lt, Option, None, Some, List, [], ◌∷◌, ◌++◌, length, map, ⊤}
+use Rattle.std.specs.List.{All}
 use Rattle.ir_types.specs.declared.id.Id.{Id}
 use Rattle.ir_types.specs.declared.ty.Ty.{Ty}
 use Rattle.ir_types.specs.declared.opd.Opd.{Opd}

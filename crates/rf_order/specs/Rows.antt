@@ -1,5 +1,5 @@
 -- Rows of instructions that run one after another, rows in another order, and when one run may stand for another.
-use Rattle.std.specs.Prelude.{◌≡◌, refl, ℕ, ◌⊎◌, Bool, true, false, List, [], ◌∷◌, ◌++◌, nat_eq}
+use Rattle.std.specs.Prelude.{◌≡◌, refl, ◌⊎◌, Bool, false, List, [], ◌∷◌, ◌++◌, nat_eq}
 use Rattle.ir_types.specs.declared.id.Id.{Id}
 use Rattle.ir_types.specs.declared.ty.Ty.{Ty}
 use Rattle.ir_types.specs.declared.inst.Inst.{Inst}

@@ -1,5 +1,5 @@
 -- When two neighbouring instructions may swap.
-use Rattle.std.specs.Prelude.{◌≡◌, refl, ℕ, ◌⊎◌, Bool, true, false, ◌||◌, Option, None, Some, List, [], ◌∷◌, map}
+use Rattle.std.specs.Prelude.{◌≡◌, ℕ, Bool, true, false, ◌||◌, None, Some, List, [], ◌∷◌, map}
 use Rattle.ir_types.specs.declared.id.Id.{Id}
 use Rattle.ir_types.specs.declared.ty.Ty.{Ty}
 use Rattle.ir_types.specs.declared.opd.Opd.{Opd}

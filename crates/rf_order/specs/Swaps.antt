@@ -2,8 +2,8 @@
 --
 -- What an operation comes to is a function of the memory. Two accesses are apart where no byte is touched by both; what is apart, and
 -- what only reads, may be done in either order, with the same results and the same memory.
-use Rattle.std.specs.Prelude.{◌≡◌, refl, ℕ, ℤ, pos, ◌+◌, ◌*◌, ◌≤◌, ◌<◌, ◌⊎◌, Bool, true, false, not, ◌&&◌, ◌||◌, Option, None, Some, List, [], ◌∷◌, length, slice_get}
-use Rattle.std.proofs.Common.{inl, inr, subst, ap}
+use Rattle.std.specs.Prelude.{◌≡◌, ℕ, ℤ, pos, ◌+◌, ◌*◌, ◌≤◌, ◌<◌, ◌⊎◌, Bool, true, false, ◌&&◌, ◌||◌, Option, None, Some, List, [], ◌∷◌, length, slice_get}
+use Rattle.std.proofs.Common.{inl, subst, ap}
 use Rattle.std.proofs.Math.Dec.{lit≤}
 use Rattle.ir_types.specs.declared.ty.Ty.{Ty}
 use Rattle.ir_types.specs.declared.ty.Ty.TheVariants.{Row}

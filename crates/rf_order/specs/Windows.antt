@@ -1,5 +1,5 @@
 -- The bundles of a window, and its instructions in the order that the window has.
-use Rattle.std.specs.Prelude.{◌≡◌, refl, Bool, true, false, Option, Some, List, [], ◌∷◌, map}
+use Rattle.std.specs.Prelude.{◌≡◌, true, false, Some, List, [], ◌∷◌, map}
 use Rattle.std.specs.List.{list_any}
 use Rattle.ir_types.specs.declared.id.Id.{Id}
 use Rattle.ir_types.specs.declared.inst.Inst.{Inst}

@@ -3,7 +3,7 @@
 //! Each law is the contract of a function that does nothing and that no program calls; a caller that calls it has the law.
 
 ghost use Rattle.rf_order.specs.Swaps.{EffectsSwap};
-ghost use Rattle.rf_order.specs.Blocks.{BlocksRefine, ExitsAreEntered, PhisAreEntered, StartsAreEntered, WholeBlocksRefine};
+ghost use Rattle.rf_order.specs.Blocks.{BlocksRefine, ExitsAreEntered, ExitsLeadOn, PhisAreEntered, StartsAreEntered, WholeBlocksRefine};
 ghost use Rattle.rf_order.specs.Ready.{AccessesKeepApart, NeighboursSwap, RowsRefine, StepsKeepReady, WindowsRefine};
 ghost use Rattle.rf_order.specs.Steps.{StepsSwap};
 ghost use Rattle.rf_order.specs.Windows.{OrdersReorder};
@@ -75,4 +75,9 @@ pub fn whole_blocks_refine()
 /// Where a block is entered, what its phis come to is entered behind them.
 pub fn phis_are_entered()
     ensures { PhisAreEntered }
+{}
+
+/// Where a block that is entered goes on to another, that one is entered on the longer walk, from this one.
+pub fn exits_lead_on()
+    ensures { ExitsLeadOn }
 {}
