@@ -22,18 +22,20 @@ use Rattle.ir_model.specs.declared.value.Value.{Value}
 use Rattle.ir_model.specs.Values.{same_id}
 use Rattle.ir_model.specs.Memory.{Memory}
 use Rattle.ir_model.specs.Step.{State, Went, Lost, Halts, On, then_go, Back, Reached, Calls}
-use Rattle.ir_model.specs.Run.{is_terminator, is_phi, Exit, Leaves, To, enter, run_block, run_insts, typed_params, typed_insts, typed_blocks, types_of, start_env, noalias_holds, Ties, on_exit, turn_at, runs, run_func, functions_of}
+use Rattle.ir_model.specs.Run.{is_terminator, is_phi, Exit, Leaves, To, enter, run_block, run_insts, typed_params, typed_insts, typed_blocks, types_of, start_env, noalias_holds, Runs, Ties, no_calls, on_exit, turn_at, runs, run_func, functions_of, outcome_of, run_found, run_of}
+use Rattle.ir_model.specs.Refines.{OutcomeRefines}
+use Rattle.ir_model.proofs.Same.{outcome_same}
 use Rattle.ir_model.specs.Fits.{Fits}
 use Rattle.ir_model.specs.Shapes.{CallsKeepShapes}
 use Rattle.ir_model.proofs.Walked.{ends_rest, length_graph}
-use Rattle.ir_model.proofs.Sound.{found_item}
+use Rattle.ir_model.proofs.Sound.{found_item, no_calls_keep}
 use Rattle.vx_view.specs.Conflicts.{depends}
 use Rattle.vx_serial.specs.Window.{order_in, joined}
 use Rattle.rf_order.specs.Rows.{Instead, Reordered}
 use Rattle.rf_order.specs.Swaps.{CallsKeepObjects}
 use Rattle.rf_order.specs.Windows.{AreOnce, ids_of, AreBundles}
 use Rattle.rf_order.specs.Blocks.{ArePhis, NoPhis, IsEntered, IsCut, run_phis, with_groups, CameFrom}
-use Rattle.rf_order.specs.Functions.{with_block, TiesKeep, FunctionsRefine}
+use Rattle.rf_order.specs.Functions.{with_block, TiesKeep, FunctionsRefine, OutcomesRefine}
 use Rattle.rf_order.proofs.Orders.{instead_chain, instead_then}
 use Rattle.rf_order.proofs.Windows.{orders_reordered}
 use Rattle.rf_order.proofs.Blocks.{window_once}
@@ -305,3 +307,19 @@ functions_refined m formed func f found at b phis before insts last after reache
     by_start true e =
         all_runs m formed f here formed_func at b phis before insts last after there cut bundles are groups order tie keep types_same bound (0 ∷ []) None 0 start formed_func.some
         (refl, subst (λ n. 0 < n) (sym (length_graph f)) formed_func.some, tt) refl refl (starts_entered m formed func f found args memory fits e)
+
+no_calls_objects : (go : Runs) → CallsKeepObjects (no_calls go)
+no_calls_objects go callee vs n left back e = absurd (lost_on e) where
+  lost_on : Lost ≡ On back → ⊥
+  lost_on e = cc
+
+outcomes_of : (new old : Went Back) → Instead new old → OutcomeRefines (outcome_of new) (outcome_of old)
+outcomes_of new old (inl e) = subst (λ w. OutcomeRefines (outcome_of new) (outcome_of w)) (sym e) tt
+outcomes_of new old (inr e) = subst (λ w. OutcomeRefines (outcome_of w) (outcome_of old)) (sym e) (outcome_same (outcome_of old))
+
+pub outcomes_refined : OutcomesRefine
+outcomes_refined m formed func f found at b phis before insts last after reached there cut bundles are groups order args memory fits bound =
+    subst (λ o. OutcomeRefines (run_found (length m.globals) (Some (with_block f at (with_groups b phis before groups last after))) args memory bound) (run_found (length m.globals) o args memory bound)) (sym found)
+    (outcomes_of (run_func no_calls (length m.globals) (with_block f at (with_groups b phis before groups last after)) args memory bound) (run_func no_calls (length m.globals) f args memory bound)
+    (functions_refined m formed func f found at b phis before insts last after reached there cut bundles are groups order no_calls
+    (λ fuel. (no_calls_keep m (runs no_calls fuel), no_calls_objects (runs no_calls fuel))) args memory fits bound))
