@@ -1,5 +1,5 @@
 -- From block to block: a function with one block in the order of its window.
-use Rattle.std.proofs.Common.{◌≡◌, refl, sym, ap, ◌∙◌, subst, ℕ, zero, suc, ◌+◌, ◌<◌, ◌≤◌, ◌⊎◌, inl, inr, Bool, true, false, not, ◌&&◌, ◌||◌, cond, Option, None, Some, List, [], ◌∷◌, ◌++◌, length, map, nat_eq, slice_get, slice_set, arith}
+use Rattle.std.proofs.Common.{◌≡◌, refl, sym, ap, ◌∙◌, subst, ℕ, zero, suc, ◌<◌, inl, inr, Bool, true, false, ◌&&◌, ◌||◌, cond, Option, None, Some, List, [], ◌∷◌, ◌++◌, length, nat_eq, slice_get, slice_set, arith}
 use Rattle.std.specs.List.{list_any, Contains}
 use Rattle.std.proofs.Math.Path.{fun_ext}
 use Rattle.std.proofs.lemmas.Bool.Decides.{nat_tests}
@@ -13,19 +13,16 @@ use Rattle.ir_types.specs.declared.func.Block.{Block}
 use Rattle.ir_types.specs.declared.func.Func.{Func}
 use Rattle.ir_types.specs.declared.module.Item.TheVariants.{Func as FuncItem}
 use Rattle.ir_types.specs.declared.module.Module.{Module}
-use Rattle.ir_types.specs.Walks.{HasEdge, IsWalk, EndsAt}
+use Rattle.ir_types.specs.Walks.{IsWalk, EndsAt}
 use Rattle.ir_types.specs.Available.{graph_of}
 use Rattle.ir_types.specs.Formed.{EndsOnce, PhisFirst, IsFormedFunc, IsFormedItem, IsFormed}
-use Rattle.ir_types.proofs.Among.{same_is, same_itself, swapped}
+use Rattle.ir_types.proofs.Among.{same_is, swapped}
 use Rattle.ir_types.proofs.Formed.{every_at, every_of_all}
-use Rattle.ir_model.specs.declared.value.Value.{Value}
 use Rattle.ir_model.specs.Values.{same_id}
-use Rattle.ir_model.specs.Memory.{Memory}
-use Rattle.ir_model.specs.Step.{State, Went, Lost, Halts, On, then_go, Back, Reached, Calls}
-use Rattle.ir_model.specs.Run.{is_terminator, is_phi, Exit, Leaves, To, enter, run_block, run_insts, typed_params, typed_insts, typed_blocks, types_of, start_env, noalias_holds, Runs, Ties, no_calls, on_exit, turn_at, runs, run_func, functions_of, outcome_of, run_found, run_of}
+use Rattle.ir_model.specs.Step.{Went, Lost, Halts, On, then_go, Back, Reached, Calls}
+use Rattle.ir_model.specs.Run.{is_terminator, is_phi, Exit, Leaves, To, enter, run_block, run_insts, typed_params, typed_insts, typed_blocks, types_of, start_env, noalias_holds, Runs, Ties, no_calls, on_exit, turn_at, runs, run_func, outcome_of, run_found}
 use Rattle.ir_model.specs.Refines.{OutcomeRefines}
 use Rattle.ir_model.proofs.Same.{outcome_same}
-use Rattle.ir_model.specs.Fits.{Fits}
 use Rattle.ir_model.specs.Shapes.{CallsKeepShapes}
 use Rattle.ir_model.proofs.Walked.{ends_rest, length_graph}
 use Rattle.ir_model.proofs.Sound.{found_item, no_calls_keep}
@@ -222,8 +219,8 @@ module _ (m : Module) (formed : IsFormed m) (f : Func) (here : Contains m.items 
       by_phis (On p) d e =
           let en2 = phis_entered m f walk a c.0 s.phis [] s.insts s.last [] whole from r p came en d in
           let run : run_insts (types_of f) calls (s.insts ++ s.last ∷ []) p ≡ On (To to q) =
-              ap (λ l. run_insts (types_of f) calls l p) (sym (append_nil (s.insts ++ s.last ∷ []))) ∙ sym (enter_front (types_of f) calls from r.state.env (s.insts ++ s.last ∷ []) [] p s.none (filled s.insts s.last))
-              ∙ ap (λ l. enter (types_of f) calls from r.state.env l p) (append_nil (s.insts ++ s.last ∷ [])) ∙ e in
+          ap (λ l. run_insts (types_of f) calls l p) (sym (append_nil (s.insts ++ s.last ∷ []))) ∙ sym (enter_front (types_of f) calls from r.state.env (s.insts ++ s.last ∷ []) [] p s.none (filled s.insts s.last))
+          ∙ ap (λ l. enter (types_of f) calls from r.state.env l p) (append_nil (s.insts ++ s.last ∷ [])) ∙ e in
           (exits_entered m f walk a c.0 s.phis s.insts s.last whole calls shapes p q to en2 run, exits_lead m f walk a c.0 s.phis s.insts s.last whole calls shapes p q to en2 run)
 
   all_runs : (fuel : ℕ) (walk : List ℕ) (from : Option ℕ) (a : ℕ) (r : Reached) → a < length f.blocks → IsWalk (graph_of f) walk → EndsAt walk a → CameFrom m f walk a from r.state → IsEntered m f walk 0 r.state →
@@ -231,32 +228,32 @@ module _ (m : Module) (formed : IsFormed m) (f : Func) (here : Contains m.items 
   all_runs zero walk from a r less walks ends came en = inr refl
   all_runs (suc fuel) walk from a r less walks ends came en =
       by_left r.left (λ to q w walks ends came en less. all_runs fuel w (Some a) to q less walks ends came en) where
-    by_left : (n : ℕ) → ((to : ℕ) (q : Reached) (w : List ℕ) → IsWalk (graph_of f) w → EndsAt w to → CameFrom m f w to (Some a) q.state → IsEntered m f w 0 q.state → to < length f.blocks → Instead (runs tie fuel New (Some a) to q) (runs tie fuel f (Some a) to q)) →
-        Instead (turn_at (tie (runs tie fuel)) (runs tie fuel) New from a r.state n) (turn_at (tie (runs tie fuel)) (runs tie fuel) f from a r.state n)
-    by_left zero more = inr refl
-    by_left (suc n) more =
-        subst (λ t. Instead (then_go (run_block t calls from p (slice_get New.blocks a)) (on_exit (runs tie fuel New (Some a)))) old) (sym types_same)
-        (instead_chain (then_go (run_block (types_of f) calls from p (slice_get New.blocks a)) (on_exit (runs tie fuel New (Some a)))) (then_go (run_block (types_of f) calls from p (slice_get f.blocks a)) (on_exit (runs tie fuel New (Some a)))) old
-        (instead_then (run_block (types_of f) calls from p (slice_get New.blocks a)) (run_block (types_of f) calls from p (slice_get f.blocks a)) (on_exit (runs tie fuel New (Some a)))
-        (one_block calls (keep fuel).0 (keep fuel).1 walk from a p walks ends came en))
-        (by_exit (run_block (types_of f) calls from p (slice_get f.blocks a)) refl))
-      where
-        calls : Calls
-        calls = tie (runs tie fuel)
+        by_left : (n : ℕ) → ((to : ℕ) (q : Reached) (w : List ℕ) → IsWalk (graph_of f) w → EndsAt w to → CameFrom m f w to (Some a) q.state → IsEntered m f w 0 q.state → to < length f.blocks → Instead (runs tie fuel New (Some a) to q) (runs tie fuel f (Some a) to q)) →
+            Instead (turn_at (tie (runs tie fuel)) (runs tie fuel) New from a r.state n) (turn_at (tie (runs tie fuel)) (runs tie fuel) f from a r.state n)
+        by_left zero more = inr refl
+        by_left (suc n) more =
+            subst (λ t. Instead (then_go (run_block t calls from p (slice_get New.blocks a)) (on_exit (runs tie fuel New (Some a)))) old) (sym types_same)
+            (instead_chain (then_go (run_block (types_of f) calls from p (slice_get New.blocks a)) (on_exit (runs tie fuel New (Some a)))) (then_go (run_block (types_of f) calls from p (slice_get f.blocks a)) (on_exit (runs tie fuel New (Some a)))) old
+            (instead_then (run_block (types_of f) calls from p (slice_get New.blocks a)) (run_block (types_of f) calls from p (slice_get f.blocks a)) (on_exit (runs tie fuel New (Some a)))
+            (one_block calls (keep fuel).0 (keep fuel).1 walk from a p walks ends came en))
+            (by_exit (run_block (types_of f) calls from p (slice_get f.blocks a)) refl))
+          where
+            calls : Calls
+            calls = tie (runs tie fuel)
 
-        p : Reached
-        p = record { state = r.state; left = n }
+            p : Reached
+            p = record { state = r.state; left = n }
 
-        old : Went Back
-        old = then_go (run_block (types_of f) calls from p (slice_get f.blocks a)) (on_exit (runs tie fuel f (Some a)))
+            old : Went Back
+            old = then_go (run_block (types_of f) calls from p (slice_get f.blocks a)) (on_exit (runs tie fuel f (Some a)))
 
-        by_exit : (w : Went Exit) → run_block (types_of f) calls from p (slice_get f.blocks a) ≡ w → Instead (then_go w (on_exit (runs tie fuel New (Some a)))) (then_go w (on_exit (runs tie fuel f (Some a))))
-        by_exit Lost d = inl refl
-        by_exit (Halts k) d = inr refl
-        by_exit (On (Leaves back)) d = inr refl
-        by_exit (On (To to q)) d =
-            let g = goes_on calls (keep fuel).0 walk from a p q to less walks ends came en d in
-            more to q (walk ++ to ∷ []) g.1.0 g.1.1 g.1.2 g.0 (subst (λ n. to < n) (length_graph f) g.1.2.3.1)
+            by_exit : (w : Went Exit) → run_block (types_of f) calls from p (slice_get f.blocks a) ≡ w → Instead (then_go w (on_exit (runs tie fuel New (Some a)))) (then_go w (on_exit (runs tie fuel f (Some a))))
+            by_exit Lost d = inl refl
+            by_exit (Halts k) d = inr refl
+            by_exit (On (Leaves back)) d = inr refl
+            by_exit (On (To to q)) d =
+                let g = goes_on calls (keep fuel).0 walk from a p q to less walks ends came en d in
+                more to q (walk ++ to ∷ []) g.1.0 g.1.1 g.1.2 g.0 (subst (λ n. to < n) (length_graph f) g.1.2.3.1)
 
 -- the window's order leaves the types
 types_cut : (m : Module) (f : Func) (walk : List ℕ) (at : ℕ) (b : Block) (phis before insts : List Inst) (last : Inst) (after : List Inst) → IsCut m f walk at b phis before insts last after →

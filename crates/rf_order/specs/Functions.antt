@@ -1,6 +1,5 @@
 -- A function with one block in the order of its window.
-use Rattle.std.specs.Prelude.{◌≡◌, refl, ℕ, ◌<◌, true, Option, Some, List, [], ◌∷◌, ◌++◌, length, slice_get, slice_set}
-use Rattle.std.specs.List.{Contains}
+use Rattle.std.specs.Prelude.{◌≡◌, ℕ, Some, List, length, slice_get, slice_set}
 use Rattle.ir_types.specs.declared.id.Id.{Id}
 use Rattle.ir_types.specs.declared.inst.Inst.{Inst}
 use Rattle.ir_types.specs.declared.func.Block.{Block}

@@ -87,11 +87,9 @@ pub fn exits_lead_on()
 /// memories that fit, every bound, and all calls that keep shapes and objects.
 pub fn functions_refine()
     ensures { FunctionsRefine }
-{
-}
+{}
 
 /// As long as calls are not read: the outcome of a function with one block in the order of its window refines the function's in the module.
 pub fn outcomes_refine()
     ensures { OutcomesRefine }
-{
-}
+{}
