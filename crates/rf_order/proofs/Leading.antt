@@ -1,5 +1,5 @@
 -- Where a block leads on, the walk is longer by one, and all that stands at the block's end is of its shape.
-use Rattle.std.proofs.Common.{◌≡◌, refl, sym, ap, ◌∙◌, subst, ℕ, zero, suc, ◌+◌, ◌<◌, ◌≤◌, ◌⊎◌, inl, inr, Bool, true, false, cond, Option, None, Some, List, [], ◌∷◌, ◌++◌, length, map, nat_eq, slice_get, arith}
+use Rattle.std.proofs.Common.{◌≡◌, refl, sym, ap, ◌∙◌, subst, ℕ, zero, suc, ◌+◌, ◌<◌, ◌⊎◌, inl, inr, Bool, true, false, cond, None, Some, List, [], ◌∷◌, ◌++◌, length, map, nat_eq, slice_get, arith}
 use Rattle.std.specs.List.{Contains}
 use Rattle.std.proofs.lemmas.List.Elements.{All-contains}
 use Rattle.ir_types.specs.declared.id.Id.{Id}
@@ -14,19 +14,19 @@ use Rattle.ir_types.specs.declared.module.Module.{Module}
 use Rattle.ir_types.specs.Typed.{is_value}
 use Rattle.ir_types.specs.Walks.{HasEdge, IsWalk, EndsAt}
 use Rattle.ir_types.specs.Available.{op_targets, graph_of, insts_at, stands_on}
-use Rattle.ir_types.specs.Formed.{given_ty, value_ty, opd_ty, IsTarget}
+use Rattle.ir_types.specs.Formed.{value_ty, opd_ty, IsTarget}
 use Rattle.ir_types.proofs.Among.{same_is}
 use Rattle.ir_model.specs.declared.value.Value.{Value}
 use Rattle.ir_model.specs.declared.value.Value.TheVariants.{Lane as LaneValue}
 use Rattle.ir_model.specs.Values.{Lane, same_id, value_of}
 use Rattle.ir_model.specs.Step.{State, Went, Lost, Halts, On, then_go, Reached, step}
-use Rattle.ir_model.specs.Run.{Exit, Leaves, To, exit_with, is_terminator, chosen, leave, run_insts, types_of}
-use Rattle.ir_model.specs.Shapes.{HasShape, IsShaped, CallsKeepShapes}
+use Rattle.ir_model.specs.Run.{Exit, To, exit_with, is_terminator, chosen, leave, run_insts, types_of}
+use Rattle.ir_model.specs.Shapes.{HasShape, IsShaped}
 use Rattle.ir_model.proofs.Walked.{insts_found, targets_found, targets_last, length_graph, walk_more, ends_more, at_contained}
 use Rattle.ir_model.proofs.Shaped.{gives_nothing}
 use Rattle.rf_order.specs.Rows.{steps}
 use Rattle.rf_order.specs.Ready.{Known, IsReady}
-use Rattle.rf_order.specs.Blocks.{IsEntered, IsCut, CameFrom, ExitsLeadOn}
+use Rattle.rf_order.specs.Blocks.{IsCut, CameFrom, ExitsLeadOn}
 use Rattle.rf_order.proofs.Refined.{insts_append}
 use Rattle.rf_order.proofs.Blocks.{entry, all_run, entered_ready, ends_none}
 use Rattle.rf_order.proofs.Exits.{all_next, ready_all, goes_state, last_here, formed_last, last_type, long, stood}

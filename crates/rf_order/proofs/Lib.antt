@@ -17,3 +17,4 @@ pub mod Exits
 pub mod Phis
 pub mod Entered
 pub mod Leading
+pub mod Functions

@@ -15,7 +15,7 @@ use Rattle.rf_order.proofs.Blocks.{window_once, blocks_refine-proof}
 
 module _ (types : Id → Ty) (calls : Calls) (from : Option ℕ) (edge : Env) where
   -- phis first, then the rest
-  enter_phis : (phis rest : List Inst) (r : Reached) → ArePhis phis → enter types calls from edge (phis ++ rest) r ≡ then_go (run_phis from edge phis r) (enter types calls from edge rest)
+  pub enter_phis : (phis rest : List Inst) (r : Reached) → ArePhis phis → enter types calls from edge (phis ++ rest) r ≡ then_go (run_phis from edge phis r) (enter types calls from edge rest)
   enter_phis [] rest r are = refl
   enter_phis (i ∷ phis) rest r are =
       ap (λ t. cond t (then_go (reached_if r.left (with_phi edge i.id r.state (arm_of from i.op i.opds))) (enter types calls from edge (phis ++ rest))) (run_insts types calls (i ∷ phis ++ rest) r)) are.0
@@ -32,7 +32,7 @@ module _ (types : Id → Ty) (calls : Calls) (from : Option ℕ) (edge : Env) wh
       ap (λ t. cond t (then_go (reached_if r.left (with_phi edge i.id r.state (arm_of from i.op i.opds))) (enter types calls from edge is)) (run_insts types calls (i ∷ is) r)) h
 
   -- a list that begins with no phi, before others
-  enter_front : (xs ys : List Inst) (r : Reached) → NoPhis xs → (xs ≡ [] → ⊥) → enter types calls from edge (xs ++ ys) r ≡ run_insts types calls (xs ++ ys) r
+  pub enter_front : (xs ys : List Inst) (r : Reached) → NoPhis xs → (xs ≡ [] → ⊥) → enter types calls from edge (xs ++ ys) r ≡ run_insts types calls (xs ++ ys) r
   enter_front [] ys r h some = absurd (some refl)
   enter_front (x ∷ xs) ys r h some = enter_plain x (xs ++ ys) r h.0
 

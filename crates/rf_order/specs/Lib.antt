@@ -5,3 +5,4 @@ pub mod Steps
 pub mod Windows
 pub mod Ready
 pub mod Blocks
+pub mod Functions

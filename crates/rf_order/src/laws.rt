@@ -4,6 +4,7 @@
 
 ghost use Rattle.rf_order.specs.Swaps.{EffectsSwap};
 ghost use Rattle.rf_order.specs.Blocks.{BlocksRefine, ExitsAreEntered, ExitsLeadOn, PhisAreEntered, StartsAreEntered, WholeBlocksRefine};
+ghost use Rattle.rf_order.specs.Functions.{FunctionsRefine, OutcomesRefine};
 ghost use Rattle.rf_order.specs.Ready.{AccessesKeepApart, NeighboursSwap, RowsRefine, StepsKeepReady, WindowsRefine};
 ghost use Rattle.rf_order.specs.Steps.{StepsSwap};
 ghost use Rattle.rf_order.specs.Windows.{OrdersReorder};
@@ -80,4 +81,15 @@ pub fn phis_are_entered()
 /// Where a block that is entered goes on to another, that one is entered on the longer walk, from this one.
 pub fn exits_lead_on()
     ensures { ExitsLeadOn }
+{}
+
+/// A function of a formed module with one block in the order of its window comes to the same, where it was defined: for all arguments and
+/// memories that fit, every bound, and all calls that keep shapes and objects.
+pub fn functions_refine()
+    ensures { FunctionsRefine }
+{}
+
+/// As long as calls are not read: the outcome of a function with one block in the order of its window refines the function's in the module.
+pub fn outcomes_refine()
+    ensures { OutcomesRefine }
 {}
