@@ -7,3 +7,4 @@ pub mod Law
 pub mod Lifted
 pub mod Blocks
 pub mod Asking
+mod Ordering

@@ -6,3 +6,4 @@ pub mod Uses
 pub mod UsesAfter
 pub mod Views
 pub mod Blocks
+pub mod Scans
