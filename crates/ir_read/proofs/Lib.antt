@@ -12,6 +12,5 @@ pub mod LoneBraces
 pub mod Named
 pub mod Placing
 pub mod ReadBodies
-pub mod ReadItems
 pub mod Splitting
 pub mod Stepping
