@@ -1,5 +1,5 @@
 -- A text read line by line is what it is where each function is judged by all its lines where it begins.
-use Rattle.std.proofs.Common.{◌≡◌, ℕ, zero, suc, ◌+◌, ◌-◌, ◌<◌, ◌≤◌, Bool, true, false, cond, not, ◌&&◌, ◌||◌, List, [], ◌∷◌, drop, take, Option, Some, None, Result, Ok, Err, nat_eq, refl, sym, ◌∙◌, ap, subst, arith}
+use Rattle.std.proofs.Common.{◌≡◌, ℕ, zero, suc, ◌+◌, ◌-◌, ◌<◌, ◌≤◌, Bool, true, false, cond, not, ◌&&◌, ◌||◌, List, [], ◌∷◌, drop, take, Option, Some, None, Result, Ok, Err, nat_eq, refl, sym, ◌∙◌, ap, arith}
 use Rattle.ir_line.specs.declared.line.Line.{Line}
 use Rattle.ir_line.specs.declared.line.Line.TheVariants as line
 use Rattle.ir_line.specs.declared.head.Head.{Head}
@@ -8,13 +8,10 @@ use Rattle.ir_read.specs.declared.outlook.Outlook.{Outlook}
 use Rattle.ir_read.specs.declared.open_function.OpenFunction.{OpenFunction as Open}
 use Rattle.ir_read.specs.declared.position.Position.{Position}
 use Rattle.ir_read.specs.declared.progress.Done.{Done}
-use Rattle.ir_read.specs.declared.progress.Current.{Current}
-use Rattle.ir_read.specs.declared.progress.Current.TheVariants as current
 use Rattle.ir_read.specs.declared.progress.Origin.{Origin}
-use Rattle.ir_read.specs.declared.progress.Faulty.{Faulty}
 use Rattle.ir_read.specs.declared.progress.Progress.{Progress}
 use Rattle.ir_read.specs.declared.refusal.ReadRefusal.{ReadRefusal}
-use Rattle.ir_read.specs.declared.refusal.ReadRefusal.TheVariants.{NotALine, Misplaced}
+use Rattle.ir_read.specs.declared.refusal.ReadRefusal.TheVariants.{Misplaced}
 use Rattle.ir_read.specs.Answers.{◌>>=◌}
 use Rattle.ir_read.specs.Lines.{lines_of}
 use Rattle.ir_read.specs.Faults.{first_fault, unless}
@@ -22,11 +19,10 @@ use Rattle.ir_read.specs.Forms.{form_in, inside_after, forms_from, forms_of}
 use Rattle.ir_read.specs.Outlook.{outlook_of}
 use Rattle.ir_read.specs.Numbers.{after_params}
 use Rattle.ir_read.specs.Position.{is_between, start, at_close}
-use Rattle.ir_read.specs.Function.{after_line, opened_by, with_line}
-use Rattle.ir_read.specs.Opaque.{passed_over, passed_label, passed_stmt, passed_end, is_foreign_line, any_foreign, is_headless, is_opaque, to_brace, joined, text_at}
-use Rattle.ir_read.specs.Draft.{Reading, Nothing, between, going_on, passing, with_kept, with_opaque, closed, placed, line_inside, header_line, function_line, step_in, step, read_from, nothing_done, draft_of}
-use Rattle.ir_read.specs.Steps as steps
-use Rattle.ir_read.specs.Steps.{outside, sound, faulty, opaque, began, header_opens, header_step, define_step, outside_step, added, misplaced, judged, sound_step, faulty_step, opaque_step, current_step, line_step, steps_from}
+use Rattle.ir_read.specs.Function.{opened_by, with_line}
+use Rattle.ir_read.specs.Opaque.{passed_label, passed_stmt, passed_end, is_foreign_line, any_foreign, is_headless, is_opaque, to_brace, joined, text_at}
+use Rattle.ir_read.specs.Draft.{Reading, Nothing, between, going_on, passing, with_kept, with_opaque, closed, placed, line_inside, header_line, function_line, step_in, read_from, nothing_done, draft_of}
+use Rattle.ir_read.specs.Steps.{outside, sound, faulty, opaque, began, header_opens, header_step, define_step, outside_step, added, misplaced, judged, sound_step, faulty_step, opaque_step, steps_from}
 use Rattle.ir_read.proofs.Flowing.{flow, any_same, Counted, Counts, Miscounts, params_counted, Found, Goes, Fails, Leaves, label_found, stmt_found, case_found, cases_found}
 
 abbrev Read : Type 0

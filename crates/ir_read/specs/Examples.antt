@@ -8,14 +8,16 @@ use Rattle.ir_types.specs.declared.op.Op.TheVariants.{Ret}
 use Rattle.ir_line.specs.declared.line.Line.TheVariants.{Stmt}
 use Rattle.ir_line.specs.declared.draft.DraftItem.TheVariants.{Func, Opaque}
 use Rattle.ir_line.specs.Keeping.{keeps_mark, keeps_word}
-use Rattle.ir_line.specs.Values.{symbol_of, local_of, act_of}
-use Rattle.ir_line.specs.Reading.{labelled_at}
-use Rattle.ir_line.specs.Forms.{form, plain_line, act_line, by_act, returns}
+use Rattle.ir_line.specs.Values.{symbol_of, local_of, act_of, width_of, label_of}
+use Rattle.ir_line.specs.Reading.{labelled_at, kind_at, ty_at}
+use Rattle.ir_line.specs.Calls.{call, call_for}
+use Rattle.ir_line.specs.Forms.{form, plain_line, act_line, by_act, returns, choices, choice}
 use Rattle.ir_line.specs.Headers.{header, head_of, ret_of, params_at}
 use Rattle.ir_line.specs.Body.{read_body, read_form}
 use Rattle.ir_line.specs.Outside.{read_outside}
 use Rattle.ir_read.specs.declared.refusal.ReadRefusal.TheVariants.{Lex, NotALine, Misplaced}
 use Rattle.ir_read.specs.Forms.{form_by, form_in}
+use Rattle.ir_read.specs.Numbers.{after_name}
 use Rattle.ir_read.specs.Limits.{with_function, passed}
 use Rattle.ir_read.specs.Position.{after_label, after_stmt, opened, at_close}
 use Rattle.ir_read.specs.Function.{opened_by, after_inst, with_line}
@@ -52,14 +54,14 @@ one_block = refl
 
 -- a function with a line that is none of the profile; an empty line in it is kept, and a brace with other tokens does not end it
 kept_whole : draft_of (codes "define void @a() {\n } }\n\n ret void\n}\n") ≡ Ok (record { items = Opaque 1 (Some (codes "a")) (codes "define void @a() {\n } }\n\n ret void\n}") ∷ [] })
-unfolding form_in form_by read_outside cut more_len name_len is_blank is_sigil is_mark is_word_byte is_control begins_name keeps_mark keeps_word word symbol_of local_of act_of labelled_at header head_of ret_of params_at read_body read_form form plain_line act_line by_act returns function_line is_opaque text_at with_opaque passed
+unfolding form_in form_by read_outside cut more_len name_len is_blank is_sigil is_mark is_word_byte is_control begins_name keeps_mark keeps_word word symbol_of local_of act_of labelled_at header head_of ret_of params_at read_body read_form form plain_line act_line by_act returns function_line is_opaque text_at with_opaque passed choices choice kind_at ty_at width_of call call_for
 kept_whole = refl
 
 -- a misplaced line, in a function that a later line makes opaque, and in one of the profile
 misplaced_first : draft_of (codes "define void @a() {\nb:\nc:\n fence\n}\n") ≡ Ok (record { items = Opaque 1 (Some (codes "a")) (codes "define void @a() {\nb:\nc:\n fence\n}") ∷ [] })
-unfolding form_in form_by read_outside cut more_len name_len is_blank is_sigil is_mark is_word_byte is_control begins_name keeps_mark keeps_word word symbol_of local_of act_of labelled_at header head_of ret_of params_at read_body read_form form plain_line act_line by_act returns function_line is_opaque passed_label text_at with_opaque passed
+unfolding form_in form_by read_outside cut more_len name_len is_blank is_sigil is_mark is_word_byte is_control begins_name keeps_mark keeps_word word symbol_of local_of act_of labelled_at header head_of ret_of params_at read_body read_form form plain_line act_line by_act returns function_line is_opaque passed_label text_at with_opaque passed label_of choices choice kind_at ty_at width_of call call_for
 misplaced_first = refl
 
 misplaced_alone : draft_of (codes "define void @a() {\nb:\nc:\n}\n") ≡ Err (Misplaced 3)
-unfolding form_in form_by read_outside cut more_len name_len is_blank is_sigil is_mark is_word_byte is_control begins_name keeps_mark keeps_word word symbol_of local_of act_of labelled_at header head_of ret_of params_at read_body read_form form plain_line act_line by_act returns function_line is_opaque passed_label header_line opened_by line_inside after_label with_line passed
+unfolding form_in form_by read_outside cut more_len name_len is_blank is_sigil is_mark is_word_byte is_control begins_name keeps_mark keeps_word word symbol_of local_of act_of labelled_at header head_of ret_of params_at read_body read_form form plain_line act_line by_act returns function_line is_opaque passed_label header_line opened_by line_inside after_label with_line passed label_of after_name
 misplaced_alone = refl

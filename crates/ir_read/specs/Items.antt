@@ -3,7 +3,7 @@
 -- The text is lines. Each line has one form or none, as a line of a function between a header and the next brace, and as a line of the
 -- module elsewhere; a line with a lexical fault has none. Each line stands where it may or is of an opaque function, and so they are the
 -- items of a draft.
-use Rattle.std.specs.Prelude.{◌≡◌, ℕ, ◌+◌, Bool, Option, None, Some, Result, Ok, Err, List, [], ◌∷◌}
+use Rattle.std.specs.Prelude.{◌≡◌, ℕ, ◌+◌, Bool, Option, None, Result, Ok, Err, List, [], ◌∷◌}
 use Rattle.ir_line.specs.declared.line.Line.{Line}
 use Rattle.ir_line.specs.declared.draft.DraftItem.{DraftItem}
 use Rattle.ir_read.specs.declared.outlook.Outlook.{Outlook}
