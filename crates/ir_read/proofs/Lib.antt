@@ -12,5 +12,6 @@ pub mod LoneBraces
 pub mod Named
 pub mod Placing
 pub mod ReadBodies
+pub mod Sizes
 pub mod Splitting
 pub mod Stepping

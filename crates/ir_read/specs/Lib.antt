@@ -1,5 +1,6 @@
 -- What a text means as a draft, or why it is none.
 pub mod Answers
+pub mod Bodies
 pub mod Draft
 pub mod Examples
 pub mod Faults
@@ -12,4 +13,5 @@ pub mod Numbers
 pub mod Opaque
 pub mod Outlook
 pub mod Position
+pub mod Sizes
 pub mod Steps

@@ -34,10 +34,10 @@ hits to ts = count_by (λ b. b == to) ts
 abbrev one_if : Bool → ℕ
 one_if c = cond c 1 0
 
-hits_append : (to : ℕ) (xs ys : List ℕ) → hits to (xs ++ ys) ≡ hits to xs + hits to ys
+pub hits_append : (to : ℕ) (xs ys : List ℕ) → hits to (xs ++ ys) ≡ hits to xs + hits to ys
 hits_append to xs ys = sum_by-append (λ b. one_if (b == to)) xs ys
 
-hits_cons : (to x : ℕ) (xs : List ℕ) → hits to (x ∷ xs) ≡ one_if (x == to) + hits to xs
+pub hits_cons : (to x : ℕ) (xs : List ℕ) → hits to (x ∷ xs) ≡ one_if (x == to) + hits to xs
 hits_cons to x xs = let e : hits to ((x ∷ []) ++ xs) ≡ hits to (x ∷ []) + hits to xs = sum_by-append (λ b. one_if (b == to)) (x ∷ []) xs in omega (arith, e)
 
 count_push : (c from : ℕ) (xs : List ℕ) → count c (xs ++ from ∷ []) ≡ count c xs + one_if (nat_eq c from)
@@ -78,7 +78,7 @@ set_there (x ∷ S) (suc t) (suc to) v apart = set_there S t to v (λ e. apart (
 length_edge : (from : ℕ) (S : List (List ℕ)) (t : ℕ) → length (with_edge from S t) ≡ length S
 length_edge from S t = length-set S t (sources_at S t ++ from ∷ [])
 
-length_edges : (from : ℕ) (S : List (List ℕ)) (ts : List ℕ) → length (with_edges from S ts) ≡ length S
+pub length_edges : (from : ℕ) (S : List (List ℕ)) (ts : List ℕ) → length (with_edges from S ts) ≡ length S
 length_edges from S [] = refl
 length_edges from S (t ∷ ts) = length_edges from (with_edge from S t) ts ∙ length_edge from S t
 
@@ -110,7 +110,7 @@ edge_other c from to t S less other = here (t == to) refl where
       ap (count c) put ∙ omega (arith, pushed, zero_is)
   here false e = ap (count c) (set_there S t to (sources_at S t ++ from ∷ []) (λ s. clash (sym ((Decides-eqb t to).1 s) ∙ e)))
 
-edges_count : (from to : ℕ) (S : List (List ℕ)) (ts : List ℕ) → to < length S → count from (sources_at (with_edges from S ts) to) ≡ count from (sources_at S to) + hits to ts
+pub edges_count : (from to : ℕ) (S : List (List ℕ)) (ts : List ℕ) → to < length S → count from (sources_at (with_edges from S ts) to) ≡ count from (sources_at S to) + hits to ts
 edges_count from to S [] less = omega arith
 edges_count from to S (t ∷ ts) less =
     let more : count from (sources_at (with_edges from (with_edge from S t) ts) to) ≡ count from (sources_at (with_edge from S t) to) + hits to ts =
@@ -119,7 +119,7 @@ edges_count from to S (t ∷ ts) less =
     let all : hits to (t ∷ ts) ≡ one_if (t == to) + hits to ts = hits_cons to t ts in
     omega (arith, more, one, all)
 
-edges_other : (c from to : ℕ) (S : List (List ℕ)) (ts : List ℕ) → to < length S → (c ≡ from → ⊥) → count c (sources_at (with_edges from S ts) to) ≡ count c (sources_at S to)
+pub edges_other : (c from to : ℕ) (S : List (List ℕ)) (ts : List ℕ) → to < length S → (c ≡ from → ⊥) → count c (sources_at (with_edges from S ts) to) ≡ count c (sources_at S to)
 edges_other c from to S [] less other = refl
 edges_other c from to S (t ∷ ts) less other =
     edges_other c from to (with_edge from S t) ts (subst (λ n. to < n) (sym (length_edge from S t)) less) other ∙ edge_other c from to t S less other

@@ -1,4 +1,6 @@
 -- Why what is printed is read again.
+pub mod Cut
+pub mod Given
 pub mod HeadWords
 pub mod HeadsAgain
 pub mod HeadsFound
@@ -30,6 +32,8 @@ pub mod NamedShown
 pub mod NamedThings
 pub mod NamedTops
 pub mod NamedTyped
+pub mod NotOpaque
+pub mod OpaqueLines
 pub mod Parts
 pub mod PartsBlocks
 pub mod PartsFlags
@@ -42,6 +46,8 @@ pub mod PlacedInsts
 pub mod PlacedItems
 pub mod PlacedModule
 pub mod PlacedNames
+pub mod PrintedSpells
+pub mod Publics
 pub mod ReadableForms
 pub mod ReadableHeads
 pub mod ReadableItems
@@ -76,6 +82,9 @@ pub mod TextLinesTyped
 pub mod TextLinesTypes
 pub mod TextsAgain
 pub mod Trimmed
+pub mod TypedInsts
+pub mod TypedItems
+pub mod TypedMarks
 pub mod Words
 pub mod WordsNames
 pub mod WordsNumbers

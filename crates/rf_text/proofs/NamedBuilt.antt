@@ -16,6 +16,7 @@ use Rattle.ir_line.specs.declared.line.Line.TheVariants as line
 use Rattle.ir_line.specs.declared.draft.Numbered.{Numbered}
 use Rattle.ir_print.specs.declared.names.Local.{Local}
 use Rattle.ir_print.specs.Names.{Names, local_of, shown, counted, is_store, is_void}
+use Rattle.ir_read.specs.Bodies.{numbered_from}
 use Rattle.ir_types_check.specs.declared.refusal.ResolveRefusal.{ResolveRefusal}
 use Rattle.ir_types_check.specs.Answers.{◌>>=◌}
 use Rattle.ir_types_check.specs.Scope.{Scope}
@@ -24,7 +25,7 @@ use Rattle.ir_types_check.specs.Blocks.{open_block, with_last, with_inst, labell
 use Rattle.ir_types_check.proofs.Handed.{LocalMeaning, TopMeaning, BuiltSoFar}
 use Rattle.rf_text.specs.Printable.{gives}
 use Rattle.rf_text.specs.Written.{result_of, shown_text, stmt_of, first_ty, more_forms, cases_of, forms_of}
-use Rattle.rf_text.specs.ModuleForms.{label_forms, insts_forms, more_blocks_forms, blocks_forms, numbered_from}
+use Rattle.rf_text.specs.ModuleForms.{label_forms, insts_forms, more_blocks_forms, blocks_forms}
 use Rattle.rf_text.proofs.NamedThings.{Thing, inst_thing, insts_things, blocks_things}
 use Rattle.rf_text.proofs.NamedPlaces.{Known, id_at, ids_things, push_length}
 use Rattle.rf_text.proofs.NamedLinks.{IsFoundInst, inst_again}

@@ -12,6 +12,7 @@ use Rattle.ir_types.specs.declared.module.Module.{Module}
 use Rattle.ir_types.specs.Formed.{IsFormedFunc, EndsOnce, block_ids, item_ids}
 use Rattle.ir_print.specs.declared.names.Local.{Local}
 use Rattle.ir_print.specs.Names.{Names, names_of, named_of, locals_from, labels_from, local_of, counted, is_store, is_void}
+use Rattle.ir_read.specs.Bodies.{numbered_from}
 use Rattle.ir_types_check.specs.declared.refusal.ResolveRefusal.{ResolveRefusal}
 use Rattle.ir_types_check.specs.Answers.{◌>>=◌}
 use Rattle.ir_types_check.specs.Scope.{Scope}
@@ -22,7 +23,7 @@ use Rattle.ir_types_check.specs.Resolved.{with_built, resolved_function}
 use Rattle.ir_types_check.proofs.Handed.{LocalMeaning, TopMeaning, LocalNames, BuiltSoFar, DoneSoFar}
 use Rattle.rf_text.specs.Headed.{shown_name, shown_params, shown_head}
 use Rattle.rf_text.specs.Printable.{is_plain, written_names, IsPlainInst, IsPlainBlock, IsPlainFunc, ids_from}
-use Rattle.rf_text.specs.ModuleForms.{body_forms, numbered_from}
+use Rattle.rf_text.specs.ModuleForms.{body_forms}
 use Rattle.rf_text.proofs.NamedScope.{Once}
 use Rattle.rf_text.proofs.NamedThings.{Thing, Gives, Begins, inst_thing, insts_things, blocks_things, params_things, things_of, named_things, things_are, scope_from, IsPlainThing, once_from}
 use Rattle.rf_text.proofs.NamedPlaces.{Known, known_from, ids_things, Placed, placed_from}

@@ -13,6 +13,7 @@ use Rattle.ir_line.specs.declared.stmt.Stmt.{Stmt}
 use Rattle.ir_line.specs.declared.line.Line.{Line}
 use Rattle.ir_line.specs.declared.line.Line.TheVariants as line
 use Rattle.ir_print.specs.Names.{Names}
+use Rattle.ir_read.specs.Bodies.{numbered_from}
 use Rattle.ir_types_check.specs.declared.refusal.ResolveRefusal.{ResolveRefusal}
 use Rattle.ir_types_check.specs.Answers.{◌>>=◌}
 use Rattle.ir_types_check.specs.Scope.{Scope, meaning}
@@ -21,7 +22,6 @@ use Rattle.ir_types_check.specs.Links.{block_of, opd_of, opds_onto, blocks_onto,
 use Rattle.ir_types_check.specs.Blocks.{id_of, inst_of}
 use Rattle.ir_types_check.proofs.Handed.{LocalMeaning, TopMeaning, LinkedNames, LinkedCases}
 use Rattle.rf_text.specs.Written.{written, shown_block, arg_of, places_from, op_of, line_blocks, stmt_of, first_ty, more_forms, cases_of}
-use Rattle.rf_text.specs.ModuleForms.{numbered_from}
 use Rattle.rf_text.proofs.NamedPlaces.{slice_get-append, push_length}
 
 -- as many cases as blocks of a `switch`, as many blocks as operands of a `phi`; and no call

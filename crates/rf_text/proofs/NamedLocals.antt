@@ -18,6 +18,7 @@ use Rattle.ir_line.specs.declared.line.Line.{Line}
 use Rattle.ir_line.specs.declared.line.Line.TheVariants as line
 use Rattle.ir_print.specs.declared.names.Local.{Local}
 use Rattle.ir_print.specs.Names.{Names, names_of, local_of, shown, counted, is_store, is_void}
+use Rattle.ir_read.specs.Bodies.{numbered_from}
 use Rattle.ir_types_check.specs.declared.refusal.ResolveRefusal.{ResolveRefusal}
 use Rattle.ir_types_check.specs.Answers.{◌>>=◌}
 use Rattle.ir_types_check.specs.Scope.{Scope, of_function}
@@ -26,7 +27,7 @@ use Rattle.ir_types_check.specs.Locals.{with_name, with_param, with_params, with
 use Rattle.ir_types_check.proofs.Handed.{LocalMeaning, value_at, block_at, LinePlace, LocalNames}
 use Rattle.rf_text.specs.Headed.{shown_param, shown_params, shown_head}
 use Rattle.rf_text.specs.Written.{op_of, result_of, shown_text, stmt_of, first_ty, more_forms, cases_of, forms_of}
-use Rattle.rf_text.specs.ModuleForms.{label_forms, insts_forms, more_blocks_forms, blocks_forms, body_forms, numbered_from}
+use Rattle.rf_text.specs.ModuleForms.{label_forms, insts_forms, more_blocks_forms, blocks_forms, body_forms}
 use Rattle.rf_text.proofs.NamedScope.{Once, defined, moved}
 use Rattle.rf_text.proofs.NamedShown.{Again}
 use Rattle.rf_text.proofs.NamedThings.{Thing, Begins, inst_thing, insts_things, blocks_things, params_things, things_of, scope_from}

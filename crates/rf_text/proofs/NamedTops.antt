@@ -1,28 +1,24 @@
 -- The names of a module, as its printed items define them.
-use Rattle.std.proofs.Common.{◌≡◌, ℕ, suc, zero, ◌+◌, Bool, true, false, List, [], ◌∷◌, ◌++◌, map, length, bytes_eq, Option, Some, None, Result, Ok, refl, sym, ◌∙◌, ap, arith, append_assoc}
+use Rattle.std.proofs.Common.{◌≡◌, ℕ, suc, zero, ◌+◌, Bool, true, false, List, [], ◌∷◌, ◌++◌, map, length, bytes_eq, Option, Some, None, Result, Ok, refl, sym, ◌∙◌, ap, arith}
 use Rattle.std.proofs.lemmas.List.{append-nil}
 use Rattle.std.proofs.lemmas.List.Elements.{All-head, All-tail}
 use Rattle.std.specs.List.{All, AllPairs, slice_get}
-use Rattle.ir_types.specs.declared.func.Func.{Func}
 use Rattle.ir_types.specs.declared.module.Item.{Item}
 use Rattle.ir_types.specs.declared.module.Item.TheVariants.{Kept, Opaque, Func as FuncItem}
-use Rattle.ir_line.specs.declared.kept.Kept.{Kept as KeptLine}
 use Rattle.ir_line.proofs.Steps.{bytes_is}
 use Rattle.ir_print.specs.Names.{names_of}
 use Rattle.ir_types_check.specs.declared.refusal.ResolveRefusal.{ResolveRefusal}
-use Rattle.ir_types_check.specs.Answers.{◌>>=◌}
 use Rattle.ir_types_check.specs.Scope.{Scope, meaning, of_module}
-use Rattle.ir_types_check.specs.Locals.{locals_of}
-use Rattle.ir_types_check.specs.Tops.{with_top, with_global, with_symbol, signature_of, with_function, with_items}
-use Rattle.ir_types_check.proofs.Handed.{TopMeaning, global_at, function_of, other_top, LocalNames, TopNames}
+use Rattle.ir_types_check.specs.Tops.{with_top, with_global, with_symbol, signature_of}
+use Rattle.ir_types_check.proofs.Handed.{TopMeaning, global_at, function_of, other_top, TopNames}
 use Rattle.rf_text.specs.Headed.{shown_head}
 use Rattle.rf_text.specs.Printable.{in_front, global_before, globals_in, tops_in}
-use Rattle.rf_text.specs.ModuleForms.{kept_at, body_forms, item_forms, gap_forms, numbered_from, more_draft_items}
+use Rattle.rf_text.specs.ModuleForms.{kept_at}
+use Rattle.rf_text.specs.OpaqueText.{opaque_name}
 use Rattle.rf_text.proofs.NamedScope.{Once, defined, found, moved}
 use Rattle.rf_text.proofs.NamedThings.{pairs_first}
 use Rattle.rf_text.proofs.NamedPlaces.{push_length}
 use Rattle.rf_text.proofs.NamedFound.{HasGlobals}
-use Rattle.rf_text.proofs.NamedFunction.{HasLocals}
 
 -- ---- the scope of a module
 
@@ -39,7 +35,7 @@ kept_next k _ _ = k
 abbrev pub tops_from : ℕ → List Item → Scope TopMeaning
 tops_from k [] = []
 tops_from k (Kept text ∷ items) = kept_scope k (kept_at text).global (kept_at text).symbol ++ tops_from (kept_next k (kept_at text).global (kept_at text).symbol) items
-tops_from k (Opaque text ∷ items) = tops_from k items
+tops_from k (Opaque text ∷ items) = kept_scope k false (opaque_name text) ++ tops_from k items
 tops_from k (FuncItem f ∷ items) = (f.name, function_of (signature_of (shown_head (names_of f) f))) ∷ tops_from k items
 
 -- ---- no name twice
@@ -60,7 +56,7 @@ tops_keys k [] = refl
 tops_keys k (Kept text ∷ items) =
     kept_keys k (kept_at text).global (kept_at text).symbol (tops_from (kept_next k (kept_at text).global (kept_at text).symbol) items)
     ∙ ap (in_front (kept_at text).symbol) (tops_keys (kept_next k (kept_at text).global (kept_at text).symbol) items)
-tops_keys k (Opaque text ∷ items) = tops_keys k items
+tops_keys k (Opaque text ∷ items) = kept_keys k false (opaque_name text) (tops_from k items) ∙ ap (in_front (opaque_name text)) (tops_keys k items)
 tops_keys k (FuncItem f ∷ items) = ap (λ (ks : List (List ℕ)). f.name ∷ ks) (tops_keys k items)
 
 key_new : (name : List ℕ) (s : Scope TopMeaning) → All (Differ name) (keys s) → meaning name s ≡ None
@@ -119,32 +115,7 @@ module _ (scope : Scope TopMeaning) (once : Once scope) where
     globals = sym (append-nil t.globals);
   }
 
-  function_defined : (gs : List (List ℕ)) (f : Func) (n k : ℕ) (t : TopNames) (rest : Scope TopMeaning) → HasLocals f (locals_of n (shown_head (names_of f) f) (numbered_from (n + 1) (body_forms gs f))) → length t.globals ≡ k →
-      scope ≡ t.scope ++ (f.name, function_of (signature_of (shown_head (names_of f) f))) ∷ rest → Stepped t k [] rest (with_function n t (shown_head (names_of f) f) (numbered_from (n + 1) (body_forms gs f)))
-  unfolding with_function
-  function_defined gs f n k t rest names many whole =
-      let head = shown_head (names_of f) f in
-      let body = numbered_from (n + 1) (body_forms gs f) in
-      let top : TopMeaning = function_of (signature_of (shown_head (names_of f) f)) in
-      let after : TopNames = record { scope = t.scope ++ (f.name, top) ∷ []; globals = t.globals } in
-      record {
-        end = after;
-        said_is =
-            ap (λ (r : Result TopNames ResolveRefusal). r >>= λ after. locals_of n head body >>= λ _. Ok after) (top_defined n t f.name top rest whole)
-            ∙ ap (λ (r : Result LocalNames ResolveRefusal). r >>= λ _. Ok after) names.said_is;
-        whole = moved scope t.scope (f.name, top) rest whole;
-        counted = many;
-        globals = sym (append-nil t.globals);
-      }
-
   -- ---- all items
-
-  -- each function has its names, wherever it stands
-  abbrev pub HaveLocals : List (List ℕ) → List Item → Type 0
-  HaveLocals gs [] = Unit {0}
-  HaveLocals gs (Kept text ∷ items) = HaveLocals gs items
-  HaveLocals gs (Opaque text ∷ items) = ⊥
-  HaveLocals gs (FuncItem f ∷ items) = ((n : ℕ) → HasLocals f (locals_of n (shown_head (names_of f) f) (numbered_from (n + 1) (body_forms gs f)))) × HaveLocals gs items
 
   -- the items define the whole scope, and these globals behind others
   pub record HasTops (globals : List (List ℕ)) (said : Result TopNames ResolveRefusal) : Type 0 where
@@ -157,36 +128,6 @@ module _ (scope : Scope TopMeaning) (once : Once scope) where
   globals_append true None rest = refl
   globals_append true (Some name) rest = refl
   globals_append false s rest = refl
-
-  pub tops_defined : (gs : List (List ℕ)) (items : List Item) (n k : ℕ) (before : Bool) (t : TopNames) → HaveLocals gs items → length t.globals ≡ k → scope ≡ t.scope ++ tops_from k items → HasTops (t.globals ++ globals_in items) (with_items t (more_draft_items gs n before items))
-  tops_defined gs [] n k before t all many whole = record { end = t; said_is = refl; whole = sym (append-nil t.scope) ∙ sym whole; globals_are = sym (append-nil t.globals) }
-  tops_defined gs (Kept text ∷ items) n k before t all many whole =
-      let kept : KeptLine = kept_at text in
-      let at : ℕ = n + length (gap_forms before false) in
-      let first : Stepped t (kept_next k (kept_at text).global (kept_at text).symbol) (item_globals (kept_at text).global (kept_at text).symbol) (tops_from (kept_next k (kept_at text).global (kept_at text).symbol) items) (with_symbol (n + length (gap_forms before false)) t (kept_at text).global (kept_at text).symbol) =
-      kept_defined (kept_at text).global (kept_at text).symbol (n + length (gap_forms before false)) k t (tops_from (kept_next k (kept_at text).global (kept_at text).symbol) items) many whole in
-      let next : HasTops (first.end.globals ++ globals_in items) (with_items first.end (more_draft_items gs (at + 1) false items)) = tops_defined gs items (at + 1) (kept_next k (kept_at text).global (kept_at text).symbol) false first.end all first.counted first.whole in
-      record {
-        end = next.end;
-        said_is = ap (λ (r : Result TopNames ResolveRefusal). r >>= λ after. with_items after (more_draft_items gs (at + 1) false items)) first.said_is ∙ next.said_is;
-        whole = next.whole;
-        globals_are =
-            next.globals_are ∙ ap (λ (xs : List (List ℕ)). xs ++ globals_in items) first.globals ∙ append_assoc t.globals (item_globals kept.global kept.symbol) (globals_in items)
-            ∙ ap (λ (xs : List (List ℕ)). t.globals ++ xs) (globals_append kept.global kept.symbol (globals_in items));
-      }
-  tops_defined gs (Opaque text ∷ items) n k before t all many whole = absurd all
-  tops_defined gs (FuncItem f ∷ items) n k before t all many whole =
-      let at : ℕ = n + length (gap_forms before true) in
-      let behind : ℕ = n + length (gap_forms before true) + length (item_forms gs (FuncItem f)) in
-      let first : Stepped t k [] (tops_from k items) (with_function (n + length (gap_forms before true)) t (shown_head (names_of f) f) (numbered_from (n + length (gap_forms before true) + 1) (body_forms gs f))) =
-      function_defined gs f (n + length (gap_forms before true)) k t (tops_from k items) (all.0 (n + length (gap_forms before true))) many whole in
-      let next : HasTops (first.end.globals ++ globals_in items) (with_items first.end (more_draft_items gs behind true items)) = tops_defined gs items behind k true first.end all.1 first.counted first.whole in
-      record {
-        end = next.end;
-        said_is = ap (λ (r : Result TopNames ResolveRefusal). r >>= λ after. with_items after (more_draft_items gs behind true items)) first.said_is ∙ next.said_is;
-        whole = next.whole;
-        globals_are = next.globals_are ∙ ap (λ (xs : List (List ℕ)). xs ++ globals_in items) (first.globals ∙ append-nil t.globals);
-      }
 
   -- ---- globals
 
@@ -210,7 +151,9 @@ module _ (scope : Scope TopMeaning) (once : Once scope) where
   globals_meant (Kept text ∷ items) k at j name done whole e is =
       kept_meant (kept_at text).global (kept_at text).symbol k at j name done (tops_from (kept_next k (kept_at text).global (kept_at text).symbol) items) (globals_in items) whole e is
       (λ done at whole e is. globals_meant items (kept_next k (kept_at text).global (kept_at text).symbol) at j name done whole e is)
-  globals_meant (Opaque text ∷ items) k at j name done whole e is = globals_meant items k at j name done whole e is
+  globals_meant (Opaque text ∷ items) k at j name done whole e is =
+      kept_meant false (opaque_name text) k at j name done (tops_from k items) (globals_in items) whole e is
+      (λ done at whole e is. globals_meant items k at j name done whole e is)
   globals_meant (FuncItem f ∷ items) k at j name done whole e is =
       globals_meant items k at j name (done ++ (f.name, function_of (signature_of (shown_head (names_of f) f))) ∷ []) (moved scope done (f.name, function_of (signature_of (shown_head (names_of f) f))) (tops_from k items) whole) e is
 

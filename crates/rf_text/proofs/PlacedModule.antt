@@ -1,6 +1,5 @@
--- The lines of a module's text stand where they may.
+-- The items of a formed and printable module stand where they may.
 use Rattle.std.proofs.Common.{◌≡◌, ℕ, suc, ◌+◌, ◌^◌, ◌<◌, Bool, true, false, List, [], ◌∷◌, ◌++◌, length, map, Some, Ok, refl, sym, subst, arith, slice_get, slice_index_or}
-use Rattle.std.proofs.lemmas.List.{append_assoc, append-nil}
 use Rattle.std.proofs.lemmas.List.Elements.{All-head, All-tail, All-nil, All-cons}
 use Rattle.std.specs.List.{All}
 use Rattle.ir_types.specs.declared.id.Id.{Id}
@@ -12,63 +11,25 @@ use Rattle.ir_types.specs.declared.func.Func.{Func}
 use Rattle.ir_types.specs.declared.module.Item.{Item}
 use Rattle.ir_types.specs.declared.module.Item.TheVariants.{Kept, Opaque, Func as FuncItem}
 use Rattle.ir_types.specs.declared.module.Module.{Module}
-use Rattle.ir_types.specs.Formed.{IsFormed, IsFormedItem, IsFormedFunc, IsFormedBlock, is_alloca, item_ids, ids_of_items}
-use Rattle.ir_line.specs.declared.line.Line.{Line}
-use Rattle.ir_line.specs.declared.draft.DraftItem.{DraftItem}
-use Rattle.ir_print.specs.Text.{is_function}
+use Rattle.ir_types.specs.Formed.{IsFormedItem, IsFormedFunc, IsFormedBlock, is_alloca, item_ids, ids_of_items}
 use Rattle.ir_print.specs.Names.{named_of}
-use Rattle.ir_read.specs.Draft.{nothing_done}
-use Rattle.ir_read.specs.Outlook.{outlook_of}
-use Rattle.ir_read.specs.Items.{barred_in, items_of}
+use Rattle.ir_read.specs.Items.{barred_in}
 use Rattle.ir_read.proofs.Placing.{Known}
-use Rattle.rf_text.specs.ModuleForms.{gap_forms, item_forms, more_items_forms, items_forms, module_forms, draft_item, more_draft_items, draft_items, printed_items}
-use Rattle.rf_text.specs.Printable.{IsPlainInst, IsPlainBlock, IsPlainFunc, IsPlainItem, IsAllowed, IsAllowedBlock, IsAllowedItem, has_function, IsPrintable, IsCountedItem, IsCounted}
-use Rattle.rf_text.proofs.PlacedNames.{Apart, IsNone, pairs_apart}
+use Rattle.rf_text.specs.ModuleForms.{module_forms}
+use Rattle.rf_text.specs.Printable.{IsPlainInst, IsPlainBlock, IsPlainFunc, IsPlainItem, IsAllowed, IsAllowedBlock, IsAllowedItem, has_function, IsCountedItem}
+use Rattle.rf_text.proofs.PlacedNames.{Apart, IsNone}
 use Rattle.rf_text.proofs.PlacedInsts.{IsFree, IsFitting}
-use Rattle.rf_text.proofs.PlacedBlocks.{IsFittingBlock, AreFitting, IsFittingFunc, body_stands}
-use Rattle.rf_text.proofs.PlacedItems.{Remain, none_remain, empty_remains, kept_remains, func_remains}
+use Rattle.rf_text.proofs.PlacedBlocks.{IsFittingBlock, AreFitting, IsFittingFunc}
 
--- ---- items, one behind the other
-
--- an item of the profile
+-- an item that stands where it may
 abbrev pub IsFittingItem : Known → List (List ℕ) → Item → Type 0
 IsFittingItem known gs (Kept text) = Unit {0}
-IsFittingItem known gs (Opaque text) = ⊥
+IsFittingItem known gs (Opaque text) = Unit {0}
 IsFittingItem known gs (FuncItem f) = (known.other_pointers ≡ false) × IsFittingFunc known.names gs f
 
 abbrev pub AreFittingItems : Known → List (List ℕ) → List Item → Type 0
 AreFittingItems known gs [] = Unit {0}
 AreFittingItems known gs (i ∷ is) = IsFittingItem known gs i × AreFittingItems known gs is
-
-module _ (known : Known) (gs : List (List ℕ)) where
-  item_remains : (n : ℕ) (before items : List DraftItem) (i : Item) (fs : List Line) → IsFittingItem known gs i → Remain known (n + length (item_forms gs i)) (before ++ draft_item gs n i ∷ []) fs items → Remain known n before (item_forms gs i ++ fs) items
-  item_remains n before items (Kept text) fs fits rest = kept_remains known n before items _ fs rest
-  item_remains n before items (Opaque text) fs fits rest = absurd fits
-  item_remains n before items (FuncItem f) fs fits rest = func_remains known gs n before items f fs fits.0 (body_stands known.names gs n f fits.1) rest
-
-  gap_remains : (n : ℕ) (before items : List DraftItem) (a b : Bool) (fs : List Line) → Remain known (n + length (gap_forms a b)) before fs items → Remain known n before (gap_forms a b ++ fs) items
-  gap_remains n before items false false fs rest = let same : n + 0 ≡ n = omega arith in subst (λ (k : ℕ). Remain known k before fs items) same rest
-  gap_remains n before items false true fs rest = empty_remains known n before items fs rest
-  gap_remains n before items true b fs rest = empty_remains known n before items fs rest
-
-  more_remain : (n : ℕ) (before : List DraftItem) (after : Bool) (is : List Item) → AreFittingItems known gs is → Remain known n before (more_items_forms gs after is) (before ++ more_draft_items gs n after is)
-  more_remain n before after [] fits = subst (λ (items : List DraftItem). Remain known n before [] items) (sym (append-nil before)) (none_remain known n before)
-  more_remain n before after (i ∷ is) fits =
-      let at : ℕ = n + length (gap_forms after (is_function i)) in
-      let behind : ℕ = at + length (item_forms gs i) in
-      let all : List DraftItem = before ++ more_draft_items gs n after (i ∷ is) in
-      let rest : Remain known behind (before ++ draft_item gs at i ∷ []) (more_items_forms gs (is_function i) is) all =
-      subst (λ (items : List DraftItem). Remain known behind (before ++ draft_item gs at i ∷ []) (more_items_forms gs (is_function i) is) items)
-      (append_assoc before (draft_item gs at i ∷ []) (more_draft_items gs behind (is_function i) is))
-      (more_remain behind (before ++ draft_item gs at i ∷ []) (is_function i) is fits.1) in
-      gap_remains n before all after (is_function i) (item_forms gs i ++ more_items_forms gs (is_function i) is)
-      (item_remains at before all i (more_items_forms gs (is_function i) is) fits.0 rest)
-
-  all_remain : (is : List Item) → AreFittingItems known gs is → Remain known 1 [] (items_forms gs is) (draft_items gs is)
-  all_remain [] fits = none_remain known 1 []
-  all_remain (i ∷ is) fits =
-      item_remains 1 [] (draft_items gs (i ∷ is)) i (more_items_forms gs (is_function i) is) fits.0
-      (more_remain (1 + length (item_forms gs i)) (draft_item gs 1 i ∷ []) (is_function i) is fits.1)
 
 -- ---- what is formed and printable fits
 
@@ -122,18 +83,18 @@ none_front : (id : Id) (xs ys : List Id) → IsNone id (xs ++ ys) → IsNone id 
 none_front id [] ys h = tt
 none_front id (x ∷ xs) ys h = (h.0, none_front id xs ys h.1)
 
-apart_front : (xs ys : List Id) → Apart (xs ++ ys) → Apart xs
+pub apart_front : (xs ys : List Id) → Apart (xs ++ ys) → Apart xs
 apart_front [] ys h = tt
 apart_front (x ∷ xs) ys h = (none_front x xs ys h.0, apart_front xs ys h.1)
 
-apart_behind : (xs ys : List Id) → Apart (xs ++ ys) → Apart ys
+pub apart_behind : (xs ys : List Id) → Apart (xs ++ ys) → Apart ys
 apart_behind [] ys h = h
 apart_behind (x ∷ xs) ys h = apart_behind xs ys h.1
 
 module _ (m : Module) (known : Known) (free : (o : Opd) → IsAllowed m o → IsFree known.names m.globals o) where
   item_fits : (i : Item) (is : List Item) → IsFormedItem m i → IsPlainItem i → IsAllowedItem m i → IsCountedItem i → Apart (item_ids i) → (has_function (i ∷ is) ≡ true → known.other_pointers ≡ false) → IsFittingItem known m.globals i
   item_fits (Kept text) is formed plain allowed counted apart pointers = tt
-  item_fits (Opaque text) is formed plain allowed counted apart pointers = plain
+  item_fits (Opaque text) is formed plain allowed counted apart pointers = tt
   item_fits (FuncItem f) is formed plain allowed counted apart pointers = (pointers refl, func_fits m known.names free f formed plain allowed counted apart)
 
   function_behind : (i : Item) (is : List Item) → has_function is ≡ true → has_function (i ∷ is) ≡ true
@@ -148,8 +109,3 @@ module _ (m : Module) (known : Known) (free : (o : Opd) → IsAllowed m o → Is
     items_fit is (All-tail (IsFormedItem m) i is formed) (All-tail IsPlainItem i is plain) (All-tail (IsAllowedItem m) i is allowed) (All-tail IsCountedItem i is counted) (apart_behind (item_ids i) (ids_of_items is) apart)
         (λ h. pointers (function_behind i is h)),
   )
-
-pub forms_are_placed : (m : Module) → IsFormed m → IsPrintable m → IsCounted m → items_of (module_forms m) ≡ Ok (printed_items m)
-forms_are_placed m formed printable counted =
-    let known : Known = outlook_of (map Some (module_forms m)) in
-    all_remain known m.globals m.items (items_fit m known (free_of m) m.items formed.items printable.items printable.operands counted (pairs_apart _ formed.once) printable.pointers) nothing_done refl

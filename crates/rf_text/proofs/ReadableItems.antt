@@ -33,7 +33,8 @@ use Rattle.ir_line.proofs.Steps.{nothing}
 use Rattle.ir_print.specs.Names.{is_store, is_void}
 use Rattle.ir_read.specs.Forms.{form_in}
 use Rattle.ir_read.specs.Function.{is_barred, any_barred}
-use Rattle.ir_read.proofs.ReadItems.{IsAllowedLine, IsReadLine, IsReadItem, item_line}
+use Rattle.ir_read.specs.Opaque.{is_opaque}
+use Rattle.ir_read.proofs.Placing.{Known}
 use Rattle.ir_types_check.specs.Outline.{written}
 use Rattle.ir_types_check.specs.Blocks.{params_from}
 use Rattle.ir_types_check.specs.Resolved.{if_big, or_later, big_endian_line}
@@ -47,10 +48,10 @@ use Rattle.rf_text.specs.KeptParts.{IsKeptPart, IsBefore}
 use Rattle.rf_text.specs.Shown.{IsPoisonIfPointer, is_call}
 use Rattle.rf_text.specs.ModuleForms.{kept_at}
 use Rattle.rf_text.specs.Printable.{is_plain, gives, IsPlainInst, IsPlainBlock, IsPlainFunc, IsPlainLine, IsPlainItem, global_before, globals_in, in_front, tops_in}
+use Rattle.rf_text.specs.OpaqueText.{IsOpaqueText, opaque_forms, opaque_name}
 use Rattle.rf_text.proofs.Kept.{kept_again, kept_is, kept_by_text}
-use Rattle.rf_text.proofs.HeadsFound.{head_of_line, symbol_name, words_front}
-use Rattle.rf_text.proofs.ReadableHeads.{first_of, name_of_line}
-use Rattle.rf_text.proofs.ReadableLines.{IsPlainStmt, IsPlainForm, IsReadForm, form_is_read, silent_result, uncalled_op}
+use Rattle.rf_text.proofs.HeadsFound.{symbol_name, words_front}
+use Rattle.rf_text.proofs.ReadableLines.{IsPlainStmt, IsPlainForm, IsReadForm, silent_result, uncalled_op}
 use Rattle.rf_text.proofs.ReadableNames.{plain_written, plain_result, store_kept, call_kept, names_once}
 
 -- ---- items as they are read
@@ -62,16 +63,37 @@ WasKept kept = (l : List ℕ) × (form_in false l ≡ Some (line.Kept kept))
 pub was_kept : (l : List ℕ) (kept : Kept) → form_in false l ≡ Some (line.Kept kept) → WasKept kept
 was_kept l kept e = (l, e)
 
--- what an item says for the whole text
-abbrev pub said_by : DraftItem → Line
-said_by x = item_line WasKept IsHead IsReadForm first_of was_kept head_of_line name_of_line form_is_read x
+-- ---- items that were read
+
+-- a line that is no call and names nothing barred
+abbrev pub IsAllowedLine : List (List ℕ) → Line → Type 0
+IsAllowedLine names (line.Stmt s) = (IsCallOp s.op → ⊥) × (any_barred names s.args ≡ false)
+IsAllowedLine names _ = Unit {0}
+
+-- whether a function whose lines have these forms is opaque where this is known
+abbrev pub is_kept : Known → List (Option Line) → Bool
+is_kept known (Some (line.Define name head) ∷ fs) = is_opaque known head fs
+is_kept known _ = false
 
 module _ (names : List (List ℕ)) (other : Bool) where
-  abbrev pub IsRead : DraftItem → Type 0
-  IsRead x = IsReadItem WasKept IsHead IsReadForm first_of was_kept head_of_line name_of_line form_is_read names other x
+  pub record IsReadAt (x : Numbered) : Type 0 where
+    pub fine : IsReadForm x.form
+    pub allowed : IsAllowedLine names x.form
 
-  abbrev pub IsReadAt : Numbered → Type 0
-  IsReadAt x = IsReadLine WasKept IsHead IsReadForm first_of was_kept head_of_line name_of_line form_is_read names x
+  pub record IsReadFunc (head : Head) (body : List Numbered) : Type 0 where
+    pub headed : IsHead head
+    pub lines : All IsReadAt body
+    pub pointers : other ≡ false
+
+  pub record IsReadOpaque (name : Option (List ℕ)) (text : List ℕ) : Type 0 where
+    pub plain : IsOpaqueText text
+    pub named : name ≡ opaque_name text
+    pub kept : is_kept (record { names = names; other_pointers = other }) (opaque_forms text) ≡ true
+
+  abbrev pub IsRead : DraftItem → Type 0
+  IsRead (item.Kept n kept) = WasKept kept
+  IsRead (item.Opaque n name text) = IsReadOpaque name text
+  IsRead (item.Func n head body) = IsReadFunc head body
 
   -- the names and statements of lines
 
@@ -228,7 +250,10 @@ module _ (names : List (List ℕ)) (other : Bool) where
         All-cons IsPlainItem (items.Kept text) is (kept_line kept text (All-head IsRead (item.Kept n kept) xs all) b.0 zip.0) (items_plain xs is zip.1 (All-tail IsRead (item.Kept n kept) xs all) b.1)
     items_plain (item.Func n head body ∷ xs) (items.Func f ∷ is) zip all little =
         All-cons IsPlainItem (items.Func f) is (func_plain head f (All-head IsRead (item.Func n head body) xs all).headed zip.0) (items_plain xs is zip.1 (All-tail IsRead (item.Func n head body) xs all) little)
-    items_plain (item.Opaque n name text ∷ xs) (i ∷ is) zip all little = absurd (All-head IsRead (item.Opaque n name text) xs all)
+    items_plain (item.Opaque n name text ∷ xs) (items.Opaque said ∷ is) zip all little =
+        All-cons IsPlainItem (items.Opaque said) is (subst IsOpaqueText (sym zip.0) (All-head IsRead (item.Opaque n name text) xs all).plain) (items_plain xs is zip.1 (All-tail IsRead (item.Opaque n name text) xs all) little)
+    items_plain (item.Opaque n name text ∷ xs) (items.Kept said ∷ is) zip all little = absurd zip.0
+    items_plain (item.Opaque n name text ∷ xs) (items.Func f ∷ is) zip all little = absurd zip.0
     items_plain (item.Kept n kept ∷ xs) (items.Opaque text ∷ is) zip all little = absurd zip.0
     items_plain (item.Kept n kept ∷ xs) (items.Func f ∷ is) zip all little = absurd zip.0
     items_plain (item.Func n head body ∷ xs) (items.Kept text ∷ is) zip all little = absurd zip.0
@@ -256,7 +281,9 @@ module _ (names : List (List ℕ)) (other : Bool) where
         global_is kept.global kept.symbol (draft_globals xs) (globals_in is) (globals_are xs is zip.1 (All-tail IsRead (item.Kept n kept) xs all))
         ∙ ap (λ (k : Kept). global_before k.global k.symbol (globals_in is)) (kept_same kept text (All-head IsRead (item.Kept n kept) xs all) zip.0)
     globals_are (item.Func n head body ∷ xs) (items.Func f ∷ is) zip all = globals_are xs is zip.1 (All-tail IsRead (item.Func n head body) xs all)
-    globals_are (item.Opaque n name text ∷ xs) (i ∷ is) zip all = absurd (All-head IsRead (item.Opaque n name text) xs all)
+    globals_are (item.Opaque n name text ∷ xs) (items.Opaque said ∷ is) zip all = globals_are xs is zip.1 (All-tail IsRead (item.Opaque n name text) xs all)
+    globals_are (item.Opaque n name text ∷ xs) (items.Kept said ∷ is) zip all = absurd zip.0
+    globals_are (item.Opaque n name text ∷ xs) (items.Func f ∷ is) zip all = absurd zip.0
     globals_are (item.Kept n kept ∷ xs) (items.Opaque text ∷ is) zip all = absurd zip.0
     globals_are (item.Kept n kept ∷ xs) (items.Func f ∷ is) zip all = absurd zip.0
     globals_are (item.Func n head body ∷ xs) (items.Kept text ∷ is) zip all = absurd zip.0
@@ -271,7 +298,11 @@ module _ (names : List (List ℕ)) (other : Bool) where
         ∙ ap (λ (k : Kept). in_front k.symbol (tops_in is)) (kept_same kept text (All-head IsRead (item.Kept n kept) xs all) zip.0)
     tops_are (item.Func n head body ∷ xs) (items.Func f ∷ is) zip all =
         ap (λ name. name ∷ draft_tops xs) (sym zip.0.name) ∙ ap (λ ys. f.name ∷ ys) (tops_are xs is zip.1 (All-tail IsRead (item.Func n head body) xs all))
-    tops_are (item.Opaque n name text ∷ xs) (i ∷ is) zip all = absurd (All-head IsRead (item.Opaque n name text) xs all)
+    tops_are (item.Opaque n name text ∷ xs) (items.Opaque said ∷ is) zip all =
+        top_is name (draft_tops xs) (tops_in is) (tops_are xs is zip.1 (All-tail IsRead (item.Opaque n name text) xs all))
+        ∙ ap (λ o. in_front o (tops_in is)) ((All-head IsRead (item.Opaque n name text) xs all).named ∙ ap opaque_name (sym zip.0))
+    tops_are (item.Opaque n name text ∷ xs) (items.Kept said ∷ is) zip all = absurd zip.0
+    tops_are (item.Opaque n name text ∷ xs) (items.Func f ∷ is) zip all = absurd zip.0
     tops_are (item.Kept n kept ∷ xs) (items.Opaque text ∷ is) zip all = absurd zip.0
     tops_are (item.Kept n kept ∷ xs) (items.Func f ∷ is) zip all = absurd zip.0
     tops_are (item.Func n head body ∷ xs) (items.Kept text ∷ is) zip all = absurd zip.0

@@ -37,9 +37,11 @@ use Rattle.rf_text.specs.Headed.{IsParam, shown_name, shown_param, shown_params,
 use Rattle.rf_text.specs.Shown.{IsPoisonIfPointer}
 use Rattle.rf_text.specs.Written.{shown_text, shown_block, shown_global, written, arg_of, op_of, line_blocks, result_of, stmt_of, cases_of, first_ty, more_forms, forms_of}
 use Rattle.rf_text.specs.ModuleForms.{label_forms, insts_forms, more_blocks_forms, blocks_forms, func_forms, item_forms, gap_forms, more_items_forms, items_forms, module_forms}
-use Rattle.rf_text.specs.Printable.{is_plain, in_front, written_names, IsPlainInst, IsPlainBlock, IsPlainFunc, IsPlainItem, globals_in, global_before, tops_in, IsAllowed, IsAllowedBlock, IsAllowedItem, has_function, IsPrintable, ids_from, IsNumbered, IsCountedItem, IsCounted}
+use Rattle.rf_text.specs.OpaqueText.{opaque_forms, opaque_name, opaque_in}
+use Rattle.rf_text.specs.Printable.{is_plain, in_front, written_names, IsPlainInst, IsPlainBlock, IsPlainFunc, IsPlainItem, globals_in, global_before, tops_in, IsAllowed, IsAllowedBlock, IsAllowedItem, has_function, IsPrintable, ids_from, IsNumbered, IsCountedItem, IsCounted, IsKeptOpaque}
 use Rattle.rf_text.specs.ModuleForms.{kept_at}
 use Rattle.rf_text.specs.Reads.{Reads}
+use Rattle.rf_text.specs.Spelled.{Spelled}
 use Rattle.rf_text.specs.Again.{IsReadAgain}
 use Rattle.rf_text.proofs.Renumbering.{numbered_stays}
 use Rattle.rf_text.proofs.TextsAgain.{texts_again}
@@ -135,7 +137,7 @@ module _ (ids : List Id) where
   item_lines : (gs : List (List ℕ)) (i : Item) → ItemIn ids i → item_forms gs (new_item ids i) ≡ item_forms gs i
   item_lines gs (Kept text) h = refl
   item_lines gs (Opaque text) h = refl
-  item_lines gs (FuncItem f) h = func_lines gs f h
+  item_lines gs (FuncItem f) h = ap (map Some) (func_lines gs f h)
 
   same_kind : (i : Item) → is_function (new_item ids i) ≡ is_function i
   same_kind (Kept text) = refl
@@ -146,15 +148,15 @@ module _ (ids : List Id) where
   more_items_lines gs before [] h = refl
   more_items_lines gs before (i ∷ items) h =
       ap (λ (b : Bool). gap_forms before b ++ (item_forms gs (new_item ids i) ++ more_items_forms gs b (map (new_item ids) items))) (same_kind i)
-      ∙ ap (λ (fs : List Line). gap_forms before (is_function i) ++ (fs ++ more_items_forms gs (is_function i) (map (new_item ids) items))) (item_lines gs i h.0)
-      ∙ ap (λ (fs : List Line). gap_forms before (is_function i) ++ (item_forms gs i ++ fs)) (more_items_lines gs (is_function i) items h.1)
+      ∙ ap (λ (fs : List (Option Line)). gap_forms before (is_function i) ++ (fs ++ more_items_forms gs (is_function i) (map (new_item ids) items))) (item_lines gs i h.0)
+      ∙ ap (λ (fs : List (Option Line)). gap_forms before (is_function i) ++ (item_forms gs i ++ fs)) (more_items_lines gs (is_function i) items h.1)
 
   items_lines : (gs : List (List ℕ)) (items : List Item) → Every (ItemIn ids) items → items_forms gs (map (new_item ids) items) ≡ items_forms gs items
   items_lines gs [] h = refl
   items_lines gs (i ∷ items) h =
       ap (λ (b : Bool). item_forms gs (new_item ids i) ++ more_items_forms gs b (map (new_item ids) items)) (same_kind i)
-      ∙ ap (λ (fs : List Line). fs ++ more_items_forms gs (is_function i) (map (new_item ids) items)) (item_lines gs i h.0)
-      ∙ ap (λ (fs : List Line). item_forms gs i ++ fs) (more_items_lines gs (is_function i) items h.1)
+      ∙ ap (λ (fs : List (Option Line)). fs ++ more_items_forms gs (is_function i) (map (new_item ids) items)) (item_lines gs i h.0)
+      ∙ ap (λ (fs : List (Option Line)). item_forms gs i ++ fs) (more_items_lines gs (is_function i) items h.1)
 
   -- ---- names and parts
 
@@ -205,7 +207,7 @@ module _ (ids : List Id) where
   tops_same : (items : List Item) → tops_in (map (new_item ids) items) ≡ tops_in items
   tops_same [] = refl
   tops_same (Kept text ∷ items) = ap (in_front (kept_at text).symbol) (tops_same items)
-  tops_same (Opaque text ∷ items) = tops_same items
+  tops_same (Opaque text ∷ items) = ap (in_front (opaque_name text)) (tops_same items)
   tops_same (FuncItem f ∷ items) = ap (λ (ts : List (List ℕ)). f.name ∷ ts) (tops_same items)
 
   functions_same : (items : List Item) → has_function (map (new_item ids) items) ≡ has_function items
@@ -219,12 +221,17 @@ module _ (ids : List Id) where
     allowed : (o : Opd) → IsAllowed m o → IsAllowed n (new_opd ids o)
     allowed (Val x) h = tt
     allowed (Lit l) h = tt
-    allowed (Sym g) h = ap (λ (fs : List Line). has (barred_in fs) (shown_global n.globals g)) lines ∙ ap (λ (gs : List (List ℕ)). has (barred_in (module_forms m)) (shown_global gs g)) globals ∙ h
+    allowed (Sym g) h = ap (λ (fs : List (Option Line)). has (barred_in fs) (shown_global n.globals g)) lines ∙ ap (λ (gs : List (List ℕ)). has (barred_in (module_forms m)) (shown_global gs g)) globals ∙ h
 
     allowed_block : (b : Block) → IsAllowedBlock m b → IsAllowedBlock n (new_block ids b)
     allowed_block b h =
         every_map (λ (i : Inst). All (IsAllowed m) i.opds) (λ (i : Inst). All (IsAllowed n) i.opds) (new_inst ids)
         (λ i k. every_map (IsAllowed m) (IsAllowed n) (new_opd ids) allowed i.opds k) b.insts h
+
+    opaque_item : (i : Item) → IsKeptOpaque m i → IsKeptOpaque n (new_item ids i)
+    opaque_item (Kept text) h = tt
+    opaque_item (Opaque text) h = ap (λ (fs : List (Option Line)). opaque_in fs (opaque_forms text)) lines ∙ h
+    opaque_item (FuncItem f) h = tt
 
     allowed_item : (i : Item) → IsAllowedItem m i → IsAllowedItem n (new_item ids i)
     allowed_item (Kept text) h = tt
@@ -282,6 +289,7 @@ module _ (m : Module) (formed : IsFormed m) where
     named = p.named;
     once = subst (AllPairs (λ (a b : List ℕ). a ≡ b → ⊥)) (sym (tops_same (ids_of m) m.items)) p.once;
     operands = every_map (ids_of m) (IsAllowedItem m) (IsAllowedItem (renumbered m)) (new_item (ids_of m)) (allowed_item (ids_of m) m (renumbered m) lines_same refl) m.items p.operands;
+    opaques = every_map (ids_of m) (IsKeptOpaque m) (IsKeptOpaque (renumbered m)) (new_item (ids_of m)) (opaque_item (ids_of m) m (renumbered m) lines_same refl) m.items p.opaques;
     pointers = λ e. ap has_other_pointers lines_same ∙ p.pointers (sym (functions_same (ids_of m) m.items) ∙ e);
     little_endian = p.little_endian;
   }
@@ -306,5 +314,6 @@ module _ (m : Module) (formed : IsFormed m) where
       let same : renumbered (renumbered m) ≡ renumbered m = numbered_stays (renumbered m) renumbered_numbered in
       record {
         reads = subst (λ (x : Module). Reads (text_of m) x) same (subst (λ (t : List ℕ). Reads t (renumbered (renumbered m))) (renumbered_text m formed) again.reads);
+        spells = subst (λ (x : Module). Spelled (text_of m) x) same (subst (λ (t : List ℕ). Spelled t (renumbered (renumbered m))) (renumbered_text m formed) again.spells);
         formed = renumbered_formed m formed;
       }

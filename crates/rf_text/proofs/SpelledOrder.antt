@@ -1,9 +1,7 @@
--- A text that is items: empty lines aside, the forms of its lines are those of the items, and in each function the numbers come in order
--- and cases stand in an open `switch`.
-use Rattle.std.proofs.Common.{◌≡◌, ℕ, ◌+◌, Bool, true, false, cond, not, ◌&&◌, ◌||◌, List, [], ◌∷◌, ◌++◌, map, Option, Some, None, Result, Ok, Err, refl, sym, ◌∙◌, ap, subst, append_assoc}
-use Rattle.std.proofs.lemmas.List.{append-nil, map-append}
+-- A function that was read: its numbers come in order, and cases stand in an open `switch`.
+use Rattle.std.proofs.Common.{◌≡◌, ℕ, ◌+◌, Bool, true, false, cond, not, ◌&&◌, ◌||◌, List, [], ◌∷◌, map, Option, Some, None, Result, Ok, Err, refl, sym, ◌∙◌, ap, subst}
 use Rattle.std.specs.List.{All}
-use Rattle.std.proofs.lemmas.List.Elements.{All-nil, All-push, All-head, All-tail}
+use Rattle.std.proofs.lemmas.List.Elements.{All-nil, All-cons, All-head, All-tail}
 use Rattle.ir_types.specs.declared.op.Op.{Op}
 use Rattle.ir_types.specs.declared.op.Op.TheVariants as ops
 use Rattle.ir_types.specs.declared.func.Param.{Param}
@@ -12,26 +10,18 @@ use Rattle.ir_line.specs.declared.head.Head.{Head}
 use Rattle.ir_line.specs.declared.line.Line.{Line}
 use Rattle.ir_line.specs.declared.line.Line.TheVariants as line
 use Rattle.ir_line.specs.declared.draft.Numbered.{Numbered}
-use Rattle.ir_line.specs.declared.draft.DraftItem.{DraftItem}
-use Rattle.ir_line.specs.declared.draft.DraftItem.TheVariants as item
 use Rattle.ir_line.specs.Sound.{IsCallOp}
 use Rattle.ir_read.specs.declared.refusal.ReadRefusal.{ReadRefusal}
 use Rattle.ir_read.specs.Answers.{◌>>=◌}
+use Rattle.ir_read.specs.Bodies.{numbered_from}
 use Rattle.ir_read.specs.Numbers.{after_name, after_result, after_param, after_params}
 use Rattle.ir_read.specs.Position.{is_between, is_cases, may_stand, spot_after, start, opened, after_label, after_stmt, after_case, after_cases, at_close}
-use Rattle.ir_read.specs.Function.{is_foreign, is_outside, after_inst, opened_by, with_line}
-use Rattle.ir_read.specs.Lines.{lines_of}
-use Rattle.ir_read.specs.Forms.{form_in, inside_after, forms_from}
-use Rattle.ir_read.specs.Outlook.{outlook_of}
-use Rattle.ir_read.specs.Draft.{nothing_done, between, going_on, with_kept, closed, line_inside, header_line, line_outside, line_at, step}
-use Rattle.ir_read.specs.Items.{closed_items, items_from, IsItems}
-use Rattle.ir_read.proofs.Placing.{Place, Opening, OpenFunction, Read, Reading, Known, no_block, front, place}
+use Rattle.ir_read.specs.Function.{is_foreign, is_outside, after_inst}
+use Rattle.ir_read.specs.Forms.{form_in}
+use Rattle.ir_read.proofs.Placing.{Place, Opening, no_block, front, place, body_lines}
 use Rattle.ir_types_check.specs.Outline as outline
 use Rattle.rf_text.specs.Headed.{is_written, IsHead}
-use Rattle.rf_text.specs.Spelled.{solid}
 use Rattle.rf_text.proofs.HeadsFound.{head_of_line}
-use Rattle.rf_text.proofs.ReadableHeads.{first_of, name_of_line}
-use Rattle.rf_text.proofs.ReadableItems.{WasKept, was_kept}
 use Rattle.rf_text.proofs.SpelledForms.{IsGoodLine, good_line}
 use Rattle.rf_text.proofs.SpelledNumbers.{IsNext, IsTaken, name_taken}
 
@@ -98,43 +88,8 @@ pub record IsOrdered (head : Head) (body : List Numbered) : Type 0 where
   pub lines : InOrder (behind_params 0 head.params) false false body
   pub good : All IsGood body
 
-abbrev pub IsOrderedItem : DraftItem → Type 0
-IsOrderedItem (item.Kept n kept) = WasKept kept
-IsOrderedItem (item.Opaque n name text) = ⊥
-IsOrderedItem (item.Func n head body) = IsOrdered head body
-
--- ---- the forms of a draft's lines
-
 abbrev pub form_of : Numbered → Line
 form_of x = x.form
-
-abbrev pub item_forms : DraftItem → List Line
-item_forms (item.Kept n kept) = line.Kept kept ∷ []
-item_forms (item.Opaque n name text) = []
-item_forms (item.Func n head body) = line.Define (first_of head) (Some head) ∷ (map form_of body ++ line.Close ∷ [])
-
-abbrev pub draft_forms : List DraftItem → List Line
-draft_forms [] = []
-draft_forms (x ∷ xs) = item_forms x ++ draft_forms xs
-
-forms_push : (xs : List DraftItem) (x : DraftItem) → draft_forms (xs ++ x ∷ []) ≡ draft_forms xs ++ item_forms x
-forms_push [] x = append-nil (item_forms x)
-forms_push (y ∷ xs) x = ap (λ fs. item_forms y ++ fs) (forms_push xs x) ∙ sym (append_assoc (item_forms y) (draft_forms xs) (item_forms x))
-
--- the lines with one more, unless it is empty
-abbrev solid_part : Line → List Line
-solid_part line.Empty = []
-solid_part form = form ∷ []
-
-solid_is : (form : Line) (forms : List Line) → solid (form ∷ forms) ≡ solid_part form ++ solid forms
-solid_is line.Empty forms = refl
-solid_is (line.Kept kept) forms = refl
-solid_is (line.Define name head) forms = refl
-solid_is line.Close forms = refl
-solid_is (line.Label name) forms = refl
-solid_is (line.Stmt s) forms = refl
-solid_is (line.Case value label) forms = refl
-solid_is line.CasesEnd forms = refl
 
 -- ---- answers of the reader
 
@@ -251,188 +206,12 @@ result_taken : (k n : ℕ) (name : Option (List ℕ)) (after : ℕ) → is_writt
 result_taken k n None after h e = record { next = tt; after_is = sym (ok_is e) }
 result_taken k n (Some name) after h e = let t : IsTaken n name after = name_taken k n name after h e in record { next = t.next; after_is = t.after_is }
 
--- ---- going through the lines
-
--- the function that is open: what follows in order from here is a body in order
-record IsOpenFunc (o : OpenFunction) : Type 0 where
-  headed : IsHead o.head
-  params : ParamsInOrder 0 o.head.params
-  open' : Bool
-  choosing : Bool
-  at : IsAt o.at.spot open' choosing
-  goes : (rest : List Numbered) → InOrder o.at.next open' choosing rest → InOrder (behind_params 0 o.head.params) false false (o.body ++ rest)
-  good : All IsGood o.body
-
-abbrev IsOpened : Option OpenFunction → Bool → Type 0
-IsOpened None inside = inside ≡ false
-IsOpened (Some o) inside = (inside ≡ true) × IsOpenFunc o
-
-abbrev open_lines : Option OpenFunction → List Line
-open_lines None = []
-open_lines (Some o) = line.Define (first_of o.head) (Some o.head) ∷ map form_of o.body
-
-abbrev so_far : Reading → List Line
-so_far read = draft_forms read.done.items ++ open_lines read.open_function
-
-record Going (read : Reading) (inside : Bool) (said : List Line) : Type 0 where
-  done : All IsOrderedItem read.done.items
-  current : IsOpened read.open_function inside
-  lines : so_far read ≡ said
-
--- the open function with one more line, behind which q is the position
-grown : (done : Read) (o : OpenFunction) (n : ℕ) (form : Line) (q : Place) (said : List Line) → All IsOrderedItem done.items → (h : IsOpenFunc o) → IsGoodLine form → Stands o.at.next h.open' h.choosing form →
-    q.next ≡ next_behind o.at.next h.open' form → IsAt q.spot (open_behind h.open' form) (choosing_behind h.choosing form) → so_far (going_on done o) ≡ said → Going (going_on done (with_line o n form q)) true (said ++ form ∷ [])
-unfolding with_line
-grown done o n form q said d h g s e a is = record {
-  done = d;
-  current = (
-    refl,
-    record {
-      headed = h.headed;
-      params = h.params;
-      open' = open_behind h.open' form;
-      choosing = choosing_behind h.choosing form;
-      at = a;
-      goes = λ rest more.
-          subst (InOrder (behind_params 0 o.head.params) false false) (sym (append_assoc o.body (record { line = n; form = form } ∷ []) rest))
-          (h.goes (record { line = n; form = form } ∷ rest) (s, subst (λ x. InOrder x (open_behind h.open' form) (choosing_behind h.choosing form) rest) e more));
-      good = All-push IsGood o.body (record { line = n; form = form }) h.good g;
-    },
-  );
-  lines =
-      ap (λ fs. draft_forms done.items ++ line.Define (first_of o.head) (Some o.head) ∷ fs) (map-append form_of o.body (record { line = n; form = form } ∷ []))
-      ∙ sym (append_assoc (draft_forms done.items) (line.Define (first_of o.head) (Some o.head) ∷ map form_of o.body) (form ∷ []))
-      ∙ ap (λ fs. fs ++ form ∷ []) is;
-}
-
--- the number where an instruction stands
 opened_next : (p : Place) (open' choosing : Bool) → IsAt p.spot open' choosing → choosing ≡ false → (opened p).next ≡ here open' p.next
 unfolding opened
 opened_next p true choosing h c = ap (λ b. (cond b (place (p.next + 1) p.insts (p.blocks + 1) front) p).next) h.outside
 opened_next p false choosing h c = ap (λ b. (cond b (place (p.next + 1) p.insts (p.blocks + 1) front) p).next) (h.outside ∙ ap not c)
 
--- an empty line
-stays : (done : Read) (o : OpenFunction) (said : List Line) → All IsOrderedItem done.items → IsOpenFunc o → so_far (going_on done o) ≡ said → Going (going_on done o) true (said ++ [])
-stays done o said d h s = record { done = d; current = (refl, h); lines = s ∙ sym (append-nil said) }
-
--- a line that is placed in the open function
-inside_line : (known : Known) (n : ℕ) (done : Read) (o : OpenFunction) (l : List ℕ) (form : Line) (after : Reading) (said : List Line) → form_in true l ≡ Some form → All IsOrderedItem done.items → IsOpenFunc o →
-    so_far (going_on done o) ≡ said → line_inside known n done o form ≡ Ok after → Going after (inside_after true (Some form)) (said ++ solid_part form)
-unfolding line_inside closed after_inst after_label after_stmt after_case after_cases at_close
-inside_line known n done o l line.Empty after said is d h s e = subst (λ x. Going x true (said ++ [])) (ok_is e) (stays done o said d h s)
-inside_line known n done o l (line.Kept kept) after said is d h s e = refused e
-inside_line known n done o l (line.Define name head) after said is d h s e = refused e
-inside_line known n done o l line.Close after said is d h s e =
-    bind_ok (at_close n o.at) _ after e (λ p was now.
-    cond_ok _ (Ok o.at) _ p was (λ both _.
-    let shut : (h.open' ≡ false) × (h.choosing ≡ false) = at_between o.at.spot h.open' h.choosing h.at (both_true (is_between o.at.spot) _ both) in
-    subst (λ x. Going x false (said ++ line.Close ∷ [])) (ok_is now) (record {
-      done = All-push IsOrderedItem done.items (item.Func o.line o.head o.body) d (record {
-        headed = h.headed;
-        params = h.params;
-        lines = subst (InOrder (behind_params 0 o.head.params) false false) (append-nil o.body) (h.goes [] shut.1);
-        good = h.good;
-      });
-      current = refl;
-      lines =
-          append-nil (draft_forms (done.items ++ item.Func o.line o.head o.body ∷ [])) ∙ forms_push done.items (item.Func o.line o.head o.body)
-          ∙ sym (append_assoc (draft_forms done.items) (line.Define (first_of o.head) (Some o.head) ∷ map form_of o.body) (line.Close ∷ []))
-          ∙ ap (λ fs. fs ++ line.Close ∷ []) s;
-    })))
-inside_line known n done o l (line.Label name) after said is d h s e =
-    bind_ok (after_label n o.at name) _ after e (λ q was now.
-    cond_ok (is_between o.at.spot) _ _ q was (λ b then'.
-    bind_ok (after_name n o.at.next name) _ q then' (λ next taken same.
-    let shut : (h.open' ≡ false) × (h.choosing ≡ false) = at_between o.at.spot h.open' h.choosing h.at b in
-    let good : IsGoodLine (line.Label name) = good_line l (line.Label name) is tt in
-    let t : IsTaken o.at.next name next = name_taken n o.at.next name next good taken in
-    subst (λ x. Going x true (said ++ line.Label name ∷ [])) (ok_is now)
-    (grown done o n (line.Label name) q said d h good (shut.1, t.next) (sym (ap (λ (x : Place). x.next) (ok_is same)) ∙ t.after_is) (subst (λ x. IsAt x true false) (ap (λ (x : Place). x.spot) (ok_is same)) front_is) s))))
-inside_line known n done o l (line.Stmt x) after said is d h s e =
-    bind_ok (after_inst known.names n o.at x) _ after e (λ q was now.
-    cond_not (is_outside known.names o.at x) _ _ q was (λ b then'.
-    cond_ok (may_stand o.at.spot x.op) _ _ q then' (λ m more.
-    bind_ok (after_result n (opened o.at).next x.result) _ q more (λ next taken same.
-    let choose : h.choosing ≡ false = not_choosing o.at.spot h.open' h.choosing x.op h.at m in
-    let good : IsGoodLine (line.Stmt x) = good_line l (line.Stmt x) is (no_call o.at x.op (neither (is_foreign o.at x.op) _ b)) in
-    let number : (opened o.at).next ≡ here h.open' o.at.next = opened_next o.at h.open' h.choosing h.at choose in
-    let t : IsTakenResult (opened o.at).next x.result next = result_taken n (opened o.at).next x.result next good.plain.named taken in
-    subst (λ y. Going y true (said ++ line.Stmt x ∷ [])) (ok_is now)
-    (grown done o n (line.Stmt x) q said d h good (choose, subst (λ k. IsNextResult k x.result) number t.next)
-    (sym (ap (λ (y : Place). y.next) (ok_is same)) ∙ t.after_is ∙ ap (λ k. outline.after_result k x.result) number)
-    (subst (λ y. IsAt y (not (is_terminator x.op)) (is_switch x.op)) (ap (λ (y : Place). y.spot) (ok_is same)) (spot_is x.op)) s)))))
-inside_line known n done o l (line.Case value label) after said is d h s e =
-    bind_ok (after_case n o.at) _ after e (λ q was now.
-    cond_ok (is_cases o.at.spot) (Ok o.at) _ q was (λ b same.
-    let good : IsGoodLine (line.Case value label) = good_line l (line.Case value label) is tt in
-    subst (λ x. Going x true (said ++ line.Case value label ∷ [])) (ok_is now)
-    (grown done o n (line.Case value label) q said d h good (sym h.at.cases ∙ b) (sym (ap (λ (x : Place). x.next) (ok_is same))) (subst (λ x. IsAt x h.open' h.choosing) (ap (λ (x : Place). x.spot) (ok_is same)) h.at) s)))
-inside_line known n done o l line.CasesEnd after said is d h s e =
-    bind_ok (after_cases n o.at) _ after e (λ q was now.
-    cond_ok (is_cases o.at.spot) _ _ q was (λ b same.
-    let choose : h.choosing ≡ true = sym h.at.cases ∙ b in
-    let shut : h.open' ≡ false = not_open h.open' h.choosing h.at.one choose in
-    subst (λ x. Going x true (said ++ line.CasesEnd ∷ [])) (ok_is now)
-    (grown done o n line.CasesEnd q said d h tt choose (sym (ap (λ (x : Place). x.next) (ok_is same))) (subst (λ x. IsAt x h.open' false) (ap (λ (x : Place). x.spot) (ok_is same)) (no_block_is h.open' shut)) s)))
-
-outside_line : (known : Known) (n : ℕ) (done : Read) (l : List ℕ) (form : Line) (after : Reading) (said : List Line) → form_in false l ≡ Some form → All IsOrderedItem done.items → so_far (between done) ≡ said →
-    line_outside known n done form ≡ Ok after → Going after (inside_after false (Some form)) (said ++ solid_part form)
-unfolding with_kept header_line opened_by
-outside_line known n done l line.Empty after said is d s e = subst (λ x. Going x false (said ++ [])) (ok_is e) (record { done = d; current = refl; lines = s ∙ sym (append-nil said) })
-outside_line known n done l (line.Kept kept) after said is d s e =
-    subst (λ x. Going x false (said ++ line.Kept kept ∷ [])) (ok_is e) (record {
-      done = All-push IsOrderedItem done.items (item.Kept n kept) d (was_kept l kept is);
-      current = refl;
-      lines = append-nil (draft_forms (done.items ++ item.Kept n kept ∷ [])) ∙ forms_push done.items (item.Kept n kept) ∙ ap (λ x. x ++ line.Kept kept ∷ []) (sym (append-nil (draft_forms done.items)) ∙ s);
-    })
-outside_line known n done l (line.Define name None) after said is d s e = refused e
-outside_line known n done l (line.Define name (Some head)) after said is d s e =
-    cond_not known.other_pointers _ _ after e (λ _ then'.
-    bind_ok (opened_by n head) _ after then' (λ o was now.
-    bind_ok (after_params n 0 head.params) _ o was (λ next taken same.
-    let headed : IsHead head = head_of_line l name head is in
-    let t : AreTaken 0 head.params next = params_taken n 0 head.params next headed.written taken in
-    let g : Going (going_on done (record { line = n; head = head; body = []; at = start next })) true (said ++ line.Define name (Some head) ∷ []) =
-    record {
-      done = d;
-      current = (
-        refl,
-        record {
-          headed = headed;
-          params = t.each;
-          open' = false;
-          choosing = false;
-          at = no_block_is false refl;
-          goes = λ rest more. subst (λ k. InOrder k false false rest) t.after_is more;
-          good = All-nil IsGood;
-        },
-      );
-      lines = ap (λ x. draft_forms done.items ++ line.Define x (Some head) ∷ []) (sym (name_of_line l name head is)) ∙ ap (λ x. x ++ line.Define name (Some head) ∷ []) (sym (append-nil (draft_forms done.items)) ∙ s);
-    } in
-    subst (λ x. Going x true (said ++ line.Define name (Some head) ∷ [])) (ap (going_on done) (ok_is same) ∙ ok_is now) g)))
-outside_line known n done l line.Close after said is d s e = refused e
-outside_line known n done l (line.Label name) after said is d s e = refused e
-outside_line known n done l (line.Stmt x) after said is d s e = refused e
-outside_line known n done l (line.Case value label) after said is d s e = refused e
-outside_line known n done l line.CasesEnd after said is d s e = refused e
-
-stepped : (known : Known) (n : ℕ) (read : Reading) (inside : Bool) (l : List ℕ) (form : Line) (after : Reading) (said : List Line) → form_in inside l ≡ Some form → Going read inside said → step known n read (Some form) ≡ Ok after →
-    Going after (inside_after inside (Some form)) (said ++ solid_part form)
-stepped known n read inside l form after said is g e = go read.open_function g.current g.lines e where
-  go : (current : Option OpenFunction) → IsOpened current inside → draft_forms read.done.items ++ open_lines current ≡ said → line_at known n read.done current form ≡ Ok after →
-      Going after (inside_after inside (Some form)) (said ++ solid_part form)
-  go None o s e =
-      subst (λ b. Going after (inside_after b (Some form)) (said ++ solid_part form)) (sym o)
-      (outside_line known n read.done l form after said (subst (λ b. form_in b l ≡ Some form) o is) g.done s e)
-  go (Some f) o s e =
-      subst (λ b. Going after (inside_after b (Some form)) (said ++ solid_part form)) (sym o.0)
-      (inside_line known n read.done f l form after said (subst (λ b. form_in b l ≡ Some form) o.0 is) g.done o.1 s e)
-
--- ---- the text
-
-pub record AreRead (xs : List DraftItem) (said : List Line) : Type 0 where
-  pub each : All IsOrderedItem xs
-  pub lines : draft_forms xs ≡ said
+-- ---- going through the lines
 
 first_form : {a b : Option Line} {as' bs : List (Option Line)} → a ∷ as' ≡ b ∷ bs → a ≡ b
 first_form e = cc
@@ -443,23 +222,73 @@ more_forms e = cc
 no_form : {P : Type 0} {b : Option Line} {bs : List (Option Line)} → [] ≡ b ∷ bs → P
 no_form e = cc
 
-all_read : (known : Known) (n : ℕ) (read : Reading) (inside : Bool) (ls : List (List ℕ)) (forms : List Line) (xs : List DraftItem) (said : List Line) → Going read inside said → forms_from inside ls ≡ map Some forms →
-    items_from known n read (map Some forms) ≡ Ok xs → AreRead xs (said ++ solid forms)
-all_read known n read inside [] [] xs said g s e = go read.open_function g.lines e where
-  go : (current : Option OpenFunction) → draft_forms read.done.items ++ open_lines current ≡ said → closed_items n read.done current ≡ Ok xs → AreRead xs (said ++ [])
-  go None is e =
-      subst (λ ys. AreRead ys (said ++ [])) (ok_is e) (record { each = g.done; lines = sym (append-nil (draft_forms read.done.items)) ∙ is ∙ sym (append-nil said) })
-  go (Some o) is e = refused e
-all_read known n read inside [] (f ∷ fs) xs said g s e = no_form s
-all_read known n read inside (l ∷ ls) [] xs said g s e = no_form (sym s)
-all_read known n read inside (l ∷ ls) (f ∷ fs) xs said g s e =
-    let is : form_in inside l ≡ Some f = first_form s in
-    bind_ok (step known n read (Some f)) _ xs e (λ after was now.
-    subst (AreRead xs) (append_assoc said (solid_part f) (solid fs) ∙ ap (λ gs. said ++ gs) (sym (solid_is f fs)))
-    (all_read known (n + 1) after (inside_after inside (Some f)) ls fs xs (said ++ solid_part f) (stepped known n read inside l f after said is g was)
-    (ap (λ o. forms_from (inside_after inside o) ls) (sym is) ∙ more_forms s) now))
+-- lines in order from here, and good
+record AreOrdered (n : ℕ) (open' choosing : Bool) (xs : List Numbered) : Type 0 where
+  lines : InOrder n open' choosing xs
+  good : All IsGood xs
 
--- the items of a text, of which each is in order; their lines are those of the text
-pub items_read : (bytes : List ℕ) (xs : List DraftItem) (is : IsItems bytes xs) → AreRead xs (solid is.forms)
-items_read bytes xs is =
-    all_read (outlook_of (map Some is.forms)) 1 (between nothing_done) false (lines_of bytes) is.forms xs [] (record { done = All-nil IsOrderedItem; current = refl; lines = refl }) is.spelled is.placed
+-- with one more line in front, behind which q is the position
+grown : (p q : Place) (n : ℕ) (open' choosing : Bool) (form : Line) (xs : List Numbered) → IsGoodLine form → Stands p.next open' choosing form → q.next ≡ next_behind p.next open' form →
+    AreOrdered q.next (open_behind open' form) (choosing_behind choosing form) xs → AreOrdered p.next open' choosing (record { line = n; form = form } ∷ xs)
+grown p q n open' choosing form xs g s e r = record {
+  lines = (s, subst (λ x. InOrder x (open_behind open' form) (choosing_behind choosing form) xs) e r.lines);
+  good = All-cons IsGood (record { line = n; form = form }) xs g r.good;
+}
+
+lines_ordered : (names : List (List ℕ)) (n k : ℕ) (p end q : Place) (open' choosing : Bool) (body : List (List ℕ)) (forms : List Line) → IsAt p.spot open' choosing → map (form_in true) body ≡ map Some forms → body_lines names n p forms ≡ Ok end →
+    at_close k end ≡ Ok q → AreOrdered p.next open' choosing (numbered_from n forms)
+unfolding after_inst after_label after_stmt after_case after_cases at_close
+lines_ordered names n k p end q open' choosing [] [] at e s shut =
+    let same : p ≡ end = ok_is s in
+    cond_ok _ (Ok end) _ q shut (λ both _.
+    let spot : is_between p.spot ≡ true = ap (λ (x : Place). is_between x.spot) same ∙ both_true (is_between end.spot) _ both in
+    record { lines = (at_between p.spot open' choosing at spot).1; good = All-nil IsGood })
+lines_ordered names n k p end q open' choosing [] (f ∷ fs) at e s shut = no_form e
+lines_ordered names n k p end q open' choosing (l ∷ ls) [] at e s shut = no_form (sym e)
+lines_ordered names n k p end q open' choosing (l ∷ ls) (line.Empty ∷ fs) at e s shut = lines_ordered names (n + 1) k p end q open' choosing ls fs at (more_forms e) s shut
+lines_ordered names n k p end q open' choosing (l ∷ ls) (line.Kept kept ∷ fs) at e s shut = refused s
+lines_ordered names n k p end q open' choosing (l ∷ ls) (line.Define name head ∷ fs) at e s shut = refused s
+lines_ordered names n k p end q open' choosing (l ∷ ls) (line.Close ∷ fs) at e s shut = refused s
+lines_ordered names n k p end q open' choosing (l ∷ ls) (line.Label name ∷ fs) at e s shut =
+    bind_ok (after_label n p name) _ end s (λ r was now.
+    cond_ok (is_between p.spot) _ _ r was (λ b then'.
+    bind_ok (after_name n p.next name) _ r then' (λ next taken same.
+    let none : (open' ≡ false) × (choosing ≡ false) = at_between p.spot open' choosing at b in
+    let good : IsGoodLine (line.Label name) = good_line l (line.Label name) (first_form e) tt in
+    let t : IsTaken p.next name next = name_taken n p.next name next good taken in
+    grown p r n open' choosing (line.Label name) (numbered_from (n + 1) fs) good (none.1, t.next) (sym (ap (λ (x : Place). x.next) (ok_is same)) ∙ t.after_is)
+    (lines_ordered names (n + 1) k r end q true false ls fs (subst (λ x. IsAt x true false) (ap (λ (x : Place). x.spot) (ok_is same)) front_is) (more_forms e) now shut))))
+lines_ordered names n k p end q open' choosing (l ∷ ls) (line.Stmt x ∷ fs) at e s shut =
+    bind_ok (after_inst names n p x) _ end s (λ r was now.
+    cond_not (is_outside names p x) _ _ r was (λ b then'.
+    cond_ok (may_stand p.spot x.op) _ _ r then' (λ m more.
+    bind_ok (after_result n (opened p).next x.result) _ r more (λ next taken same.
+    let choose : choosing ≡ false = not_choosing p.spot open' choosing x.op at m in
+    let good : IsGoodLine (line.Stmt x) = good_line l (line.Stmt x) (first_form e) (no_call p x.op (neither (is_foreign p x.op) _ b)) in
+    let number : (opened p).next ≡ here open' p.next = opened_next p open' choosing at choose in
+    let t : IsTakenResult (opened p).next x.result next = result_taken n (opened p).next x.result next good.plain.named taken in
+    grown p r n open' choosing (line.Stmt x) (numbered_from (n + 1) fs) good (choose, subst (λ k. IsNextResult k x.result) number t.next)
+    (sym (ap (λ (y : Place). y.next) (ok_is same)) ∙ t.after_is ∙ ap (λ k. outline.after_result k x.result) number)
+    (lines_ordered names (n + 1) k r end q (not (is_terminator x.op)) (is_switch x.op) ls fs (subst (λ y. IsAt y (not (is_terminator x.op)) (is_switch x.op)) (ap (λ (y : Place). y.spot) (ok_is same)) (spot_is x.op)) (more_forms e) now shut)))))
+lines_ordered names n k p end q open' choosing (l ∷ ls) (line.Case value label ∷ fs) at e s shut =
+    bind_ok (after_case n p) _ end s (λ r was now.
+    cond_ok (is_cases p.spot) (Ok p) _ r was (λ b same.
+    let good : IsGoodLine (line.Case value label) = good_line l (line.Case value label) (first_form e) tt in
+    grown p r n open' choosing (line.Case value label) (numbered_from (n + 1) fs) good (sym at.cases ∙ b) (sym (ap (λ (x : Place). x.next) (ok_is same)))
+    (lines_ordered names (n + 1) k r end q open' choosing ls fs (subst (λ x. IsAt x open' choosing) (ap (λ (x : Place). x.spot) (ok_is same)) at) (more_forms e) now shut)))
+lines_ordered names n k p end q open' choosing (l ∷ ls) (line.CasesEnd ∷ fs) at e s shut =
+    bind_ok (after_cases n p) _ end s (λ r was now.
+    cond_ok (is_cases p.spot) _ _ r was (λ b same.
+    let choose : choosing ≡ true = sym at.cases ∙ b in
+    let none : open' ≡ false = not_open open' choosing at.one choose in
+    grown p r n open' choosing line.CasesEnd (numbered_from (n + 1) fs) tt choose (sym (ap (λ (x : Place). x.next) (ok_is same)))
+    (lines_ordered names (n + 1) k r end q open' false ls fs (subst (λ x. IsAt x open' false) (ap (λ (x : Place). x.spot) (ok_is same)) (no_block_is open' none)) (more_forms e) now shut)))
+
+-- a function that was read is in order
+pub function_ordered : (names : List (List ℕ)) (n k first : ℕ) (end q : Place) (l : List ℕ) (name : Option (List ℕ)) (head : Head) (body : List (List ℕ)) (forms : List Line) → form_in false l ≡ Some (line.Define name (Some head)) →
+    after_params n 0 head.params ≡ Ok first → map (form_in true) body ≡ map Some forms → body_lines names (n + 1) (start first) forms ≡ Ok end → at_close k end ≡ Ok q → IsOrdered head (numbered_from (n + 1) forms)
+function_ordered names n k first end q l name head body forms is taken e s shut =
+    let headed : IsHead head = head_of_line l name head is in
+    let t : AreTaken 0 head.params first = params_taken n 0 head.params first headed.written taken in
+    let r : AreOrdered first false false (numbered_from (n + 1) forms) = lines_ordered names (n + 1) k (start first) end q false false body forms (no_block_is false refl) e s shut in
+    record { headed = headed; params = t.each; lines = subst (λ x. InOrder x false false (numbered_from (n + 1) forms)) t.after_is r.lines; good = r.good }

@@ -1,5 +1,5 @@
 -- A draft whose items have the lines that spell a formed module: its names stand for that module.
-use Rattle.std.proofs.Common.{◌≡◌, ℕ, ◌+◌, false, List, [], ◌∷◌, ◌++◌, length, map, Option, None, Result, Ok, refl, sym, ◌∙◌, ap, subst, append_assoc, arith, length-append}
+use Rattle.std.proofs.Common.{◌≡◌, ℕ, suc, ◌+◌, false, List, [], ◌∷◌, ◌++◌, length, map, Option, None, Some, Result, Ok, refl, sym, ◌∙◌, ap, subst, append_assoc, arith, length-append}
 use Rattle.std.proofs.lemmas.List.{append-nil}
 use Rattle.std.specs.List.{AllZip}
 use Rattle.ir_types.specs.declared.ty.Ty.{Ty}
@@ -21,7 +21,7 @@ use Rattle.ir_types_check.specs.declared.refusal.ResolveRefusal.{ResolveRefusal}
 use Rattle.ir_types_check.specs.Answers.{◌>>=◌}
 use Rattle.ir_types_check.specs.Scope.{Scope}
 use Rattle.ir_types_check.specs.Locals.{locals_of}
-use Rattle.ir_types_check.specs.Tops.{with_top, with_symbol, signature_of, with_function, with_items}
+use Rattle.ir_types_check.specs.Tops.{with_top, with_symbol, with_opaque, signature_of, with_function, with_items}
 use Rattle.ir_types_check.specs.Blocks.{closed, params_from, param_lines, func_of, built_of}
 use Rattle.ir_types_check.specs.Resolved.{with_built, with_kept, resolved_function, resolved_items, big_endian_line, module_of}
 use Rattle.ir_types_check.specs.Named.{Names as DraftNames}
@@ -29,6 +29,7 @@ use Rattle.ir_types_check.proofs.BodyIds.{length_param_lines}
 use Rattle.ir_types_check.proofs.Handed.{LocalMeaning, TopMeaning, function_of, LocalNames, TopNames, BuiltSoFar, DoneSoFar}
 use Rattle.rf_text.specs.Headed.{shown_params, shown_head}
 use Rattle.rf_text.specs.ModuleForms.{kept_at}
+use Rattle.rf_text.specs.OpaqueText.{opaque_name}
 use Rattle.rf_text.specs.Printable.{IsPlainFunc, IsPrintable, IsNumbered, IsCounted, globals_in}
 use Rattle.rf_text.specs.Spelled.{IsWrittenParam, IsHeaderOf, AreBlocks}
 use Rattle.rf_text.proofs.NamedFound.{HasGlobals, blocks_are_read, all_end}
@@ -41,7 +42,7 @@ use Rattle.rf_text.proofs.NamedThings.{Thing, blocks_things, params_things}
 use Rattle.rf_text.proofs.NamedTops.{tops_from, tops_once, kept_scope, kept_next, HasTops, globals_found}
 use Rattle.rf_text.proofs.NamedTops as tops
 use Rattle.rf_text.proofs.SpelledBuilt.{Mark, insts_marks, marks, things_same}
-use Rattle.rf_text.proofs.SpelledMarks.{many, blocks_marked, Ends, blocks_end, marks_once}
+use Rattle.rf_text.proofs.SpelledMarks.{many, starts, blocks_marked, Ends, blocks_end, marks_once}
 use Rattle.rf_text.proofs.SpelledOrder.{form_of}
 use Rattle.rf_text.proofs.SpellingBuilt.{AreRead, blocks_read, IsMade, marks_made, params_again}
 use Rattle.rf_text.proofs.SpellingLocals.{IsSaid, locals_said}
@@ -49,6 +50,7 @@ use Rattle.rf_text.proofs.SpellingLocals.{IsSaid, locals_said}
 -- a draft's item with the lines of an item
 abbrev pub IsDraftOf : List (List ℕ) → DraftItem → Item → Type 0
 IsDraftOf gs (item.Kept n kept) (items.Kept text) = kept ≡ kept_at text
+IsDraftOf gs (item.Opaque n name text) (items.Opaque said) = (name ≡ opaque_name said) × (text ≡ said)
 IsDraftOf gs (item.Func n head body) (items.Func f) = IsHeaderOf f head × AreBlocks (names_of f) gs 0 f.blocks (map form_of body)
 IsDraftOf gs _ _ = ⊥
 
@@ -75,7 +77,7 @@ func_many f =
     let whole : length (map (λ (p : Param). p.id) f.params ++ block_ids f.blocks) ≡ length (map (λ (p : Param). p.id) f.params) + length (block_ids f.blocks) = length-append (map (λ (p : Param). p.id) f.params) (block_ids f.blocks) in
     omega (arith, whole, map_length f.params, blocks_many f.blocks)
 
-zip_length : (ns : Names) (ps qs : List Param) → AllZip (IsWrittenParam ns) ps qs → length qs ≡ length ps
+pub zip_length : (ns : Names) (ps qs : List Param) → AllZip (IsWrittenParam ns) ps qs → length qs ≡ length ps
 zip_length ns [] [] z = refl
 zip_length ns [] (q ∷ qs) z = absurd z
 zip_length ns (p ∷ ps) [] z = absurd z
@@ -83,15 +85,23 @@ zip_length ns (p ∷ ps) (q ∷ qs) z = let more : length qs ≡ length ps = zip
 
 -- ---- one function
 
-HasNames : Func → Result LocalNames ResolveRefusal → Type 0
-HasNames f said = (end : LocalNames) × (said ≡ Ok end) × (end.scope ≡ scope_of f)
+abbrev pub HasNames : Func → Result LocalNames ResolveRefusal → Type 0
+HasNames f said = (end : LocalNames) × (said ≡ Ok end) × (end.scope ≡ scope_of f) × (end.at.blocks ≡ length f.blocks)
 
-has_names : (m : Module) (f : Func) (base ln : ℕ) (head : Head) (body : List Numbered) → IsFormedFunc m f → named.Stands f base → IsHeaderOf f head → AreBlocks (names_of f) m.globals 0 f.blocks (map form_of body) → HasNames f (locals_of ln head body)
-unfolding HasNames
+insts_begin : (is : List Inst) (ms : List Mark) → starts (insts_marks is ms) ≡ starts ms
+insts_begin [] ms = refl
+insts_begin (i ∷ is) ms = insts_begin is ms
+
+-- as many blocks begin as there are
+pub all_begin : (bs : List Block) → starts (marks bs) ≡ length bs
+all_begin [] = refl
+all_begin (b ∷ bs) = ap suc (insts_begin b.insts (marks bs) ∙ all_begin bs)
+
+pub has_names : (m : Module) (f : Func) (base ln : ℕ) (head : Head) (body : List Numbered) → IsFormedFunc m f → named.Stands f base → IsHeaderOf f head → AreBlocks (names_of f) m.globals 0 f.blocks (map form_of body) → HasNames f (locals_of ln head body)
 has_names m f base ln head body formed is header blocks =
     let ends : Ends false (marks f.blocks) = blocks_end f.blocks (all_end m f formed) in
-    let s : IsSaid base (scope_of f) is.once (names_of f) (locals_of ln head body) = locals_said f m.globals base (scope_of f) is.once ln head body header (blocks_marked m.globals (names_of f) blocks) ends refl is.known in
-    (s.end, s.said_is, s.whole)
+    let s : IsSaid base (scope_of f) is.once (names_of f) (starts (marks f.blocks)) (locals_of ln head body) = locals_said f m.globals base (scope_of f) is.once ln head body header (blocks_marked m.globals (names_of f) blocks) ends refl is.known in
+    (s.end, s.said_is, s.whole, s.count ∙ all_begin f.blocks)
 
 -- what is known behind the parameters
 params_known : (base : ℕ) (scope : Scope LocalMeaning) (ns : Names) (n p b q : ℕ) (ps : List Param) (rest : List Thing) → q ≡ p + length ps → Known base scope ns n p b (params_things ps rest) → (k : ℕ) × Known base scope ns k q b rest
@@ -118,7 +128,7 @@ begun ln lines head = record { blocks = []; current = None; lines = param_lines 
 
 function_resolves : (tops : Scope TopMeaning) (m : Module) (f : Func) (done : DoneSoFar) (ln : ℕ) (head : Head) (body : List Numbered) → HasGlobals m.globals tops → IsFormedFunc m f → IsPlainFunc f → named.Stands f (length done.lines) → IsHeaderOf f head →
     AreBlocks (names_of f) m.globals 0 f.blocks (map form_of body) → Resolves f done (resolved_function tops ln done head body)
-unfolding resolved_function with_built built_of HasNames
+unfolding resolved_function with_built built_of
 function_resolves tops m f done ln head body globals formed plain is header blocks =
     let base : ℕ = length done.lines in
     let locals : HasNames f (locals_of ln head body) = has_names m f (length done.lines) ln head body formed is header blocks in
@@ -182,7 +192,18 @@ items_resolve m tops (item.Func n head body ∷ xs) (items.Func f ∷ is) base d
           ap (λ (r : Result DoneSoFar ResolveRefusal). r >>= λ d. resolved_items tops d xs) first.said_is ∙ next.said_is
           ∙ ap (λ (ys : List Item). Ok (record { items = ys; lines = next.lines })) (append_assoc done.items (items.Func f ∷ []) is);
     }
-items_resolve m tops (item.Opaque n name text ∷ xs) (i ∷ is) base done globals count all zip = absurd zip.0
+items_resolve m tops (item.Opaque n name text ∷ xs) (items.Opaque said ∷ is) base done globals count all zip =
+    let after : DoneSoFar = record { items = done.items ++ items.Opaque said ∷ []; lines = done.lines } in
+    let next : AreResolved (record { items = done.items ++ items.Opaque said ∷ []; lines = done.lines }) is (resolved_items tops (record { items = done.items ++ items.Opaque said ∷ []; lines = done.lines }) xs) =
+    items_resolve m tops xs is base after globals count all zip.1 in
+    record {
+      lines = next.lines;
+      said_is =
+          ap (λ (t : List ℕ). resolved_items tops (record { items = done.items ++ items.Opaque t ∷ []; lines = done.lines }) xs) zip.0.1 ∙ next.said_is
+          ∙ ap (λ (ys : List Item). Ok (record { items = ys; lines = next.lines })) (append_assoc done.items (items.Opaque said ∷ []) is);
+    }
+items_resolve m tops (item.Opaque n name text ∷ xs) (items.Kept said ∷ is) base done globals count all zip = absurd zip.0
+items_resolve m tops (item.Opaque n name text ∷ xs) (items.Func f ∷ is) base done globals count all zip = absurd zip.0
 items_resolve m tops (item.Kept n kept ∷ xs) (items.Opaque text ∷ is) base done globals count all zip = absurd zip.0
 items_resolve m tops (item.Kept n kept ∷ xs) (items.Func f ∷ is) base done globals count all zip = absurd zip.0
 items_resolve m tops (item.Func n head body ∷ xs) (items.Kept text ∷ is) base done globals count all zip = absurd zip.0
@@ -208,7 +229,7 @@ HaveNames (item.Opaque n name text ∷ xs) = HaveNames xs
 HaveNames (item.Func n head body ∷ xs) = ((l : LocalNames) × (locals_of n head body ≡ Ok l)) × HaveNames xs
 
 have_names : (m : Module) (xs : List DraftItem) (is : List Item) (base : ℕ) → AllStand m base is → AllZip (IsDraftOf m.globals) xs is → HaveNames xs
-unfolding HaveNames HasNames
+unfolding HaveNames
 have_names m [] [] base all zip = tt
 have_names m [] (i ∷ is) base all zip = absurd zip
 have_names m (x ∷ xs) [] base all zip = absurd zip
@@ -216,11 +237,18 @@ have_names m (item.Kept n kept ∷ xs) (items.Kept text ∷ is) base all zip = h
 have_names m (item.Func n head body ∷ xs) (items.Func f ∷ is) base all zip =
     let h : HasNames f (locals_of n head body) = has_names m f base n head body all.0 all.2 zip.0.0 zip.0.1 in
     ((h.0, h.1), have_names m xs is (base + length (item_ids (items.Func f))) all.3 zip.1)
-have_names m (item.Opaque n name text ∷ xs) (i ∷ is) base all zip = absurd zip.0
+have_names m (item.Opaque n name text ∷ xs) (items.Opaque said ∷ is) base all zip = have_names m xs is base all zip.1
+have_names m (item.Opaque n name text ∷ xs) (items.Kept said ∷ is) base all zip = absurd zip.0
+have_names m (item.Opaque n name text ∷ xs) (items.Func f ∷ is) base all zip = absurd zip.0
 have_names m (item.Kept n kept ∷ xs) (items.Opaque text ∷ is) base all zip = absurd zip.0
 have_names m (item.Kept n kept ∷ xs) (items.Func f ∷ is) base all zip = absurd zip.0
 have_names m (item.Func n head body ∷ xs) (items.Kept text ∷ is) base all zip = absurd zip.0
 have_names m (item.Func n head body ∷ xs) (items.Opaque text ∷ is) base all zip = absurd zip.0
+
+-- an opaque function is named as a kept line is that is no global
+opaque_symbol : (n : ℕ) (t : TopNames) (name : Option (List ℕ)) → with_opaque n t name ≡ with_symbol n t false name
+opaque_symbol n t None = refl
+opaque_symbol n t (Some name) = refl
 
 module _ (gs : List (List ℕ)) (scope : Scope TopMeaning) (once : Once scope) where
   function_defined : (f : Func) (head : Head) (body : List Numbered) (n k : ℕ) (t : TopNames) (rest : Scope TopMeaning) (l : LocalNames) → locals_of n head body ≡ Ok l → IsHeaderOf f head → length t.globals ≡ k →
@@ -268,7 +296,20 @@ module _ (gs : List (List ℕ)) (scope : Scope TopMeaning) (once : Once scope) w
         whole = next.whole;
         globals_are = next.globals_are ∙ ap (λ (ys : List (List ℕ)). ys ++ globals_in is) (first.globals ∙ append-nil t.globals);
       }
-  tops_said (item.Opaque n name text ∷ xs) (i ∷ is) k t all zip count whole = absurd zip.0
+  tops_said (item.Opaque n name text ∷ xs) (items.Opaque said ∷ is) k t all zip count whole =
+      let first : tops.Stepped scope once t (kept_next k false (opaque_name said)) (tops.item_globals scope once false (opaque_name said)) (tops_from k is) (with_symbol n t false (opaque_name said)) =
+      tops.kept_defined scope once false (opaque_name said) n k t (tops_from k is) count whole in
+      let next : HasTops scope once (first.end.globals ++ globals_in is) (with_items first.end xs) = tops_said xs is k first.end all zip.1 first.counted first.whole in
+      record {
+        end = next.end;
+        said_is =
+            ap (λ (x : Option (List ℕ)). with_opaque n t x >>= λ after. with_items after xs) zip.0.0
+            ∙ ap (λ (r : Result TopNames ResolveRefusal). r >>= λ after. with_items after xs) (opaque_symbol n t (opaque_name said) ∙ first.said_is) ∙ next.said_is;
+        whole = next.whole;
+        globals_are = next.globals_are ∙ ap (λ (ys : List (List ℕ)). ys ++ globals_in is) (first.globals ∙ append-nil t.globals);
+      }
+  tops_said (item.Opaque n name text ∷ xs) (items.Kept said ∷ is) k t all zip count whole = absurd zip.0
+  tops_said (item.Opaque n name text ∷ xs) (items.Func f ∷ is) k t all zip count whole = absurd zip.0
   tops_said (item.Kept n kept ∷ xs) (items.Opaque text ∷ is) k t all zip count whole = absurd zip.0
   tops_said (item.Kept n kept ∷ xs) (items.Func f ∷ is) k t all zip count whole = absurd zip.0
   tops_said (item.Func n head body ∷ xs) (items.Kept text ∷ is) k t all zip count whole = absurd zip.0
@@ -284,7 +325,9 @@ low_first m (item.Kept n kept ∷ xs) (items.Kept text ∷ is) base all zip =
     let no : kept.big_endian ≡ false = ap (λ (k : Kept). k.big_endian) zip.0 ∙ all.0.little_endian in
     rw no (low_first m xs is base all.1 zip.1)
 low_first m (item.Func n head body ∷ xs) (items.Func f ∷ is) base all zip = low_first m xs is (base + length (item_ids (items.Func f))) all.3 zip.1
-low_first m (item.Opaque n name text ∷ xs) (i ∷ is) base all zip = absurd zip.0
+low_first m (item.Opaque n name text ∷ xs) (items.Opaque said ∷ is) base all zip = low_first m xs is base all zip.1
+low_first m (item.Opaque n name text ∷ xs) (items.Kept said ∷ is) base all zip = absurd zip.0
+low_first m (item.Opaque n name text ∷ xs) (items.Func f ∷ is) base all zip = absurd zip.0
 low_first m (item.Kept n kept ∷ xs) (items.Opaque text ∷ is) base all zip = absurd zip.0
 low_first m (item.Kept n kept ∷ xs) (items.Func f ∷ is) base all zip = absurd zip.0
 low_first m (item.Func n head body ∷ xs) (items.Kept text ∷ is) base all zip = absurd zip.0

@@ -1,5 +1,5 @@
 -- The names of a function, as the lines define them that spell it: they are what is shown of its things.
-use Rattle.std.proofs.Common.{◌≡◌, ℕ, ◌+◌, inl, inr, Bool, true, false, not, List, [], ◌∷◌, ◌++◌, map, Option, Result, Ok, refl, sym, ◌∙◌, ap, subst, append_assoc}
+use Rattle.std.proofs.Common.{◌≡◌, ℕ, ◌+◌, inl, inr, Bool, true, false, not, List, [], ◌∷◌, ◌++◌, map, Option, Result, Ok, refl, sym, ◌∙◌, ap, subst, append_assoc, arith}
 use Rattle.std.proofs.lemmas.List.{append-nil}
 use Rattle.std.specs.List.{AllZip}
 use Rattle.std.specs.Prelude.{unwrap_or}
@@ -31,7 +31,7 @@ use Rattle.rf_text.proofs.NamedScope.{Once, moved}
 use Rattle.rf_text.proofs.NamedShown.{Again}
 use Rattle.rf_text.proofs.NamedThings.{Thing, blocks_things, params_things, things_of, scope_from}
 use Rattle.rf_text.proofs.SpelledBuilt.{Mark, Starts, Does, marks, marks_things, things_same}
-use Rattle.rf_text.proofs.SpelledMarks.{SayMarks, Ends, HasFirst, has_first}
+use Rattle.rf_text.proofs.SpelledMarks.{starts, SayMarks, Ends, HasFirst, has_first}
 use Rattle.rf_text.proofs.SpelledOrder.{form_of}
 
 clash : {P : Type 0} → true ≡ false → P
@@ -137,13 +137,14 @@ module _ (base : ℕ) (scope : Scope LocalMeaning) (once : Once scope) (ns : Nam
   -- ---- lines
 
   -- all names are defined
-  pub record IsSaid (said : Result LocalNames ResolveRefusal) : Type 0 where
+  pub record IsSaid (blocks : ℕ) (said : Result LocalNames ResolveRefusal) : Type 0 where
     pub end : LocalNames
     pub said_is : said ≡ Ok end
     pub whole : end.scope ≡ scope
+    pub count : end.at.blocks ≡ blocks
 
-  said_by : {a b : Result LocalNames ResolveRefusal} → a ≡ b → IsSaid b → IsSaid a
-  said_by e s = record { end = s.end; said_is = e ∙ s.said_is; whole = s.whole }
+  said_by : {a b : Result LocalNames ResolveRefusal} {j k : ℕ} → a ≡ b → j ≡ k → IsSaid j b → IsSaid k a
+  said_by e same s = record { end = s.end; said_is = e ∙ s.said_is; whole = s.whole; count = s.count ∙ same }
 
   module _ (gs : List (List ℕ)) where
     -- where no block is open, an instruction begins an unnamed one
@@ -163,14 +164,15 @@ module _ (base : ℕ) (scope : Scope LocalMeaning) (once : Once scope) (ns : Nam
         ∙ sym (ap (with_lines (locals (done ++ (decimal n, block_at b) ∷ []) (n + 1) p (b + 1) true)) f.whole)
 
     pub marks_said : (ms : List Mark) (body : List Numbered) (n p b : ℕ) (o : Bool) (done : Scope LocalMeaning) → SayMarks gs ns b ms (map form_of body) → Ends o ms → scope ≡ done ++ scope_from n p b (marks_things ms) →
-        Known base scope ns n p b (marks_things ms) → IsSaid (with_lines (locals done n p b o) body)
-    marks_said [] [] n p b o done h ends whole known = record { end = locals done n p b o; said_is = refl; whole = sym (append-nil done) ∙ sym whole }
+        Known base scope ns n p b (marks_things ms) → IsSaid (b + starts ms) (with_lines (locals done n p b o) body)
+    marks_said [] [] n p b o done h ends whole known = record { end = locals done n p b o; said_is = refl; whole = sym (append-nil done) ∙ sym whole; count = omega arith }
     marks_said [] (x ∷ xs) n p b o done h ends whole known = no_line (sym h)
     marks_said (Starts name ∷ ms) body n p b o done h ends whole known =
         let behind : Scope LocalMeaning = scope_from (counted n name) p (b + 1) (marks_things ms) in
-        let next : (rest : List Numbered) → SayMarks gs ns (b + 1) ms (map form_of rest) → IsSaid (with_lines (locals (done ++ (shown n name, block_at b) ∷ []) (counted n name) p (b + 1) true) rest) =
+        let one_more : b + 1 + starts ms ≡ b + starts (Starts name ∷ ms) = omega arith in
+        let next : (rest : List Numbered) → SayMarks gs ns (b + 1) ms (map form_of rest) → IsSaid (b + 1 + starts ms) (with_lines (locals (done ++ (shown n name, block_at b) ∷ []) (counted n name) p (b + 1) true) rest) =
         λ rest says. marks_said ms rest (counted n name) p (b + 1) true (done ++ (shown n name, block_at b) ∷ []) says ends.1 (moved scope done (shown n name, block_at b) (scope_from (counted n name) p (b + 1) (marks_things ms)) whole) known.1 in
-        elim h.1 as (λ _. IsSaid (with_lines (locals done n p b o) body)) [
+        elim h.1 as (λ _. IsSaid (b + starts (Starts name ∷ ms)) (with_lines (locals done n p b o) body)) [
           | inl e ↦
               let f : HasFirst (line.Label (shown_block ns b)) h.0 body = has_first _ _ body e in
               let text : shown_block ns b ≡ shown n name = ap (λ (x : Option (List ℕ)). unwrap_or x []) known.0.shows in
@@ -178,6 +180,7 @@ module _ (base : ℕ) (scope : Scope LocalMeaning) (once : Once scope) (ns : Nam
               (ap (with_lines (locals done n p b o)) f.whole
               ∙ ap (λ x. with_label f.n (locals done n p b o) x >>= λ l. with_lines l f.rest) text
               ∙ ap (λ (r : Result LocalNames ResolveRefusal). r >>= λ l. with_lines l f.rest) (label_read base scope once ns gs f.n n p b o done behind name known.0.once_more whole))
+              one_more
               (next f.rest (subst (SayMarks gs ns (b + 1) ms) (sym f.forms) h.2))
           | inr e ↦
               let says : SayMarks gs ns (b + 1) ms (map form_of body) = subst (SayMarks gs ns (b + 1) ms) (sym e.1) h.2 in
@@ -186,6 +189,7 @@ module _ (base : ℕ) (scope : Scope LocalMeaning) (once : Once scope) (ns : Nam
               (ap (λ x. with_lines (locals done n p b x) body) ends.0
               ∙ unlabelled n p b done behind ms body says ends.1 whole'
               ∙ sym (ap (λ x. with_lines (locals (done ++ (shown n x, block_at b) ∷ []) (counted n x) p (b + 1) true) body) e.0))
+              one_more
               (next body says)
         ]
     marks_said (Does i ∷ ms) body n p b o done h ends whole known =
@@ -193,7 +197,7 @@ module _ (base : ℕ) (scope : Scope LocalMeaning) (once : Once scope) (ns : Nam
         let r : Behind h.0 f.rest = more_behind ns i.opds i.op h.0 f.rest f.forms in
         let s : Stepped base scope once ns (marks_things ms) p b (stmt_of ns gs i) (with_stmt f.n (locals done n p b true) (stmt_of ns gs i)) =
         inst_read base scope once ns (is_void i.ty) (is_store i.op) i (stmt_of ns gs i) refl refl f.n n p b done (marks_things ms) whole known in
-        let next : IsSaid (with_lines (locals s.done s.next (p + 1) b (not (is_terminator i.op))) r.ys) =
+        let next : IsSaid (b + starts ms) (with_lines (locals s.done s.next (p + 1) b (not (is_terminator i.op))) r.ys) =
         marks_said ms r.ys s.next (p + 1) b (not (is_terminator i.op)) s.done (subst (SayMarks gs ns b ms) (sym r.forms) h.2) ends.1 s.whole s.known in
         said_by
         (ap (λ x. with_lines (locals done n p b x) body) ends.0 ∙ ap (with_lines (locals done n p b true)) f.whole
@@ -201,18 +205,19 @@ module _ (base : ℕ) (scope : Scope LocalMeaning) (once : Once scope) (ns : Nam
         ∙ ap (λ x. with_lines (locals s.done s.next (p + 1) b (not x)) f.rest) (ends_as i.op)
         ∙ ap (with_lines (locals s.done s.next (p + 1) b (not (is_terminator i.op)))) r.whole
         ∙ silent_passed (locals s.done s.next (p + 1) b (not (is_terminator i.op))) r.front r.ys r.silent)
+        refl
         next
 
 -- ---- the function
 
 -- its names, as a header and lines define them that spell it
 pub locals_said : (f : Func) (gs : List (List ℕ)) (base : ℕ) (scope : Scope LocalMeaning) (once : Once scope) (ln : ℕ) (head : Head) (body : List Numbered) → IsHeaderOf f head → SayMarks gs (names_of f) 0 (marks f.blocks) (map form_of body) →
-    Ends false (marks f.blocks) → scope ≡ scope_from 0 0 0 (things_of f) → Known base scope (names_of f) 0 0 0 (things_of f) → IsSaid base scope once (names_of f) (locals_of ln head body)
+    Ends false (marks f.blocks) → scope ≡ scope_from 0 0 0 (things_of f) → Known base scope (names_of f) 0 0 0 (things_of f) → IsSaid base scope once (names_of f) (starts (marks f.blocks)) (locals_of ln head body)
 unfolding locals_of
 locals_said f gs base scope once ln head body is says ends whole known =
     let first : Reached base scope once (names_of f) (blocks_things f.blocks) 0 false (with_params ln (locals [] 0 0 0 false) head.params) =
     params_read base scope once (names_of f) ln 0 0 0 false [] f.params head.params (blocks_things f.blocks) is.params whole known in
-    let next : IsSaid base scope once (names_of f) (with_lines (locals first.done first.next first.place 0 false) body) =
+    let next : IsSaid base scope once (names_of f) (0 + starts (marks f.blocks)) (with_lines (locals first.done first.next first.place 0 false) body) =
     marks_said base scope once (names_of f) gs (marks f.blocks) body first.next first.place 0 false first.done says ends
     (first.whole ∙ ap (λ ts. first.done ++ scope_from first.next first.place 0 ts) (sym (things_same f.blocks)))
     (subst (Known base scope (names_of f) first.next first.place 0) (sym (things_same f.blocks)) first.known) in
@@ -220,4 +225,5 @@ locals_said f gs base scope once ln head body is says ends whole known =
       end = next.end;
       said_is = ap (λ (r : Result LocalNames ResolveRefusal). r >>= λ l. with_lines l body) first.said_is ∙ next.said_is;
       whole = next.whole;
+      count = (let z : 0 + starts (marks f.blocks) ≡ starts (marks f.blocks) = omega arith in next.count ∙ z);
     }

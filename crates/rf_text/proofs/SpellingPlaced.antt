@@ -27,7 +27,7 @@ use Rattle.rf_text.proofs.PlacedBlocks.{AreFitting, label_stands}
 use Rattle.rf_text.proofs.PlacedInsts.{IsFitting, opening, opening_behind, ResultTaken, result_taken, inst_stands, lines_append}
 use Rattle.rf_text.proofs.PlacedNames.{Ahead, name_taken, ahead_small, value_found, value_passed, label_found, label_passed}
 use Rattle.rf_text.proofs.SpelledBuilt.{Mark, Starts, Does, insts_marks, marks}
-use Rattle.rf_text.proofs.SpelledMarks.{starts, SayMarks, Ends, marks_named}
+use Rattle.rf_text.proofs.SpelledMarks.{many, starts, SayMarks, Ends, marks_named}
 
 clash : {P : Type 0} → true ≡ false → P
 clash e = cc
@@ -110,30 +110,32 @@ module _ (names : List (List ℕ)) (ns : Names) (gs : List (List ℕ)) where
   spot_behind true before = refl
   spot_behind false before = refl
 
-  pub record LinesStand (at : ℕ) (ms : List Mark) (said : Result Place ReadRefusal) : Type 0 where
+  pub record LinesStand (at before : ℕ) (ms : List Mark) (said : Result Place ReadRefusal) : Type 0 where
     pub next : ℕ
     pub insts : ℕ
     pub blocks : ℕ
     pub stand : said ≡ Ok (place next insts blocks no_block)
     pub count : blocks ≡ at + starts ms
+    pub done : insts ≡ before + many ms
 
-  pub marks_stand : (ms : List Mark) (fs : List Line) (ln n insts at : ℕ) (o before : Bool) → SayMarks gs ns at ms fs → Ends o ms → FitMarks at before ms → Ahead ns at n (marks_named ms) → LinesStand at ms (body_lines names ln (place n insts at (spot o before)) fs)
+  pub marks_stand : (ms : List Mark) (fs : List Line) (ln n insts at : ℕ) (o before : Bool) → SayMarks gs ns at ms fs → Ends o ms → FitMarks at before ms → Ahead ns at n (marks_named ms) → LinesStand at insts ms (body_lines names ln (place n insts at (spot o before)) fs)
   marks_stand [] fs ln n insts at o before says ends fits ahead = record {
     next = n;
     insts = insts;
     blocks = at;
     stand = ap (λ x. body_lines names ln (place n insts at (spot x before)) fs) ends ∙ ap (body_lines names ln (place n insts at no_block)) says;
     count = omega arith;
+    done = omega arith;
   }
   marks_stand (Starts name ∷ ms) fs ln n insts at o before says ends fits ahead =
       let small : n < 2 ^ 64 = ahead_small ns at n (Label name) (marks_named ms) ahead in
       let text : shown_block ns at ≡ shown n name = ap (λ (x : Option (List ℕ)). unwrap_or x []) (label_found ns at n name (marks_named ms) ahead) in
-      let next : (k : ℕ) (rest : List Line) → SayMarks gs ns (at + 1) ms rest → LinesStand (at + 1) ms (body_lines names k (place (counted n name) insts (at + 1) front) rest) =
+      let next : (k : ℕ) (rest : List Line) → SayMarks gs ns (at + 1) ms rest → LinesStand (at + 1) insts ms (body_lines names k (place (counted n name) insts (at + 1) front) rest) =
       λ k rest h. marks_stand ms rest k (counted n name) insts (at + 1) true true h ends.1 fits.1 (label_passed ns at n name (marks_named ms) ahead) in
       let shut : body_lines names ln (place n insts at (spot o before)) fs ≡ body_lines names ln (place n insts at no_block) fs = ap (λ x. body_lines names ln (place n insts at (spot x before)) fs) ends.0 in
-      elim says.1 as (λ _. LinesStand at (Starts name ∷ ms) (body_lines names ln (place n insts at (spot o before)) fs)) [
+      elim says.1 as (λ _. LinesStand at insts (Starts name ∷ ms) (body_lines names ln (place n insts at (spot o before)) fs)) [
         | inl e ↦
-            let r : LinesStand (at + 1) ms (body_lines names (ln + 1) (place (counted n name) insts (at + 1) front) says.0) = next (ln + 1) says.0 says.2 in
+            let r : LinesStand (at + 1) insts ms (body_lines names (ln + 1) (place (counted n name) insts (at + 1) front) says.0) = next (ln + 1) says.0 says.2 in
             record {
               next = r.next;
               insts = r.insts;
@@ -141,16 +143,18 @@ module _ (names : List (List ℕ)) (ns : Names) (gs : List (List ℕ)) where
               stand = shut ∙ ap (body_lines names ln (place n insts at no_block)) e ∙ ap (λ x. after_label ln (place n insts at no_block) x >>= (λ q. body_lines names (ln + 1) q says.0)) text
                   ∙ ap (λ (x : Result Place ReadRefusal). x >>= (λ q. body_lines names (ln + 1) q says.0)) (label_stands ln n insts at name fits.0 small) ∙ r.stand;
               count = let same : r.blocks ≡ at + 1 + starts ms = r.count in omega (arith, same);
+              done = r.done;
             }
         | inr e ↦
             let h : SayMarks gs ns (at + 1) ms fs = subst (SayMarks gs ns (at + 1) ms) (sym e.1) says.2 in
-            let r : LinesStand (at + 1) ms (body_lines names ln (place (counted n name) insts (at + 1) front) fs) = next ln fs h in
+            let r : LinesStand (at + 1) insts ms (body_lines names ln (place (counted n name) insts (at + 1) front) fs) = next ln fs h in
             record {
               next = r.next;
               insts = r.insts;
               blocks = r.blocks;
               stand = shut ∙ unlabelled ln n insts at ms fs h ends.1 ∙ sym (ap (λ x. body_lines names ln (place (counted n x) insts (at + 1) front) fs) e.0) ∙ r.stand;
               count = let same : r.blocks ≡ at + 1 + starts ms = r.count in omega (arith, same);
+              done = r.done;
             }
       ]
   marks_stand (Does i ∷ ms) fs ln n insts at o before says ends fits ahead =
@@ -162,7 +166,7 @@ module _ (names : List (List ℕ)) (ns : Names) (gs : List (List ℕ)) where
       ap (λ k. body_lines names ln (place n insts k (opening before)) (forms_of ns gs i)) fits.1 ∙ first
       ∙ sym (ap (λ k. ok (place result.next (insts + 1) k (opening_behind (is_terminator i.op) (before && is_phi i.op)))) fits.1)
       ∙ ap (λ s. ok (place result.next (insts + 1) at s)) (spot_behind (is_terminator i.op) (before && is_phi i.op)) in
-      let r : LinesStand at ms (body_lines names (ln + length (forms_of ns gs i)) (place result.next (insts + 1) at (spot (not (is_terminator i.op)) (before && is_phi i.op))) says.0) =
+      let r : LinesStand at (insts + 1) ms (body_lines names (ln + length (forms_of ns gs i)) (place result.next (insts + 1) at (spot (not (is_terminator i.op)) (before && is_phi i.op))) says.0) =
       marks_stand ms says.0 (ln + length (forms_of ns gs i)) result.next (insts + 1) at (not (is_terminator i.op)) (before && is_phi i.op) says.2 ends.1 fits.4 result.ahead in
       record {
         next = r.next;
@@ -172,6 +176,7 @@ module _ (names : List (List ℕ)) (ns : Names) (gs : List (List ℕ)) where
             ap (λ x. body_lines names ln (place n insts at (spot x before)) fs) ends.0 ∙ ap (body_lines names ln (place n insts at (opening before))) says.1
             ∙ lines_append names ln (place n insts at (opening before)) (place result.next (insts + 1) at (spot (not (is_terminator i.op)) (before && is_phi i.op))) (forms_of ns gs i) says.0 here ∙ r.stand;
         count = r.count;
+        done = let same : r.insts ≡ insts + 1 + many ms = r.done in omega (arith, same);
       }
 
 -- ---- where a line stands does not hang on its number

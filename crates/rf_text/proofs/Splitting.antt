@@ -10,7 +10,7 @@ no_from true h = cc
 no_from false h = refl
 
 -- a line in front of others
-line_first : (l rest : List ℕ) → is_line l ≡ true → lines_of (l ++ (10 ∷ rest)) ≡ l ∷ lines_of rest
+pub line_first : (l rest : List ℕ) → is_line l ≡ true → lines_of (l ++ (10 ∷ rest)) ≡ l ∷ lines_of rest
 line_first [] rest h = refl
 line_first (b ∷ bs) rest h =
     let byte : (b == 10) || (b == 13) ≡ false = no_from _ (both _ _ h).0 in

@@ -42,12 +42,12 @@ pub record Spoken (text : List ℕ) (forms : List Line) : Type 0 where
 
 -- ---- no line of a body ends its function or begins one
 
-abbrev keeps_inside : Line → Bool
+abbrev pub keeps_inside : Line → Bool
 keeps_inside (line.Define name head) = false
 keeps_inside line.Close = false
 keeps_inside form = true
 
-abbrev Keep : List Line → Type 0
+abbrev pub Keep : List Line → Type 0
 Keep fs = list_all keeps_inside fs ≡ true
 
 keep_both : (fs gs : List Line) → Keep fs → Keep gs → Keep (fs ++ gs)
@@ -77,7 +77,7 @@ module _ (ns : Names) (gs : List (List ℕ)) where
       keep_both (label_forms (slice_get ns.labels at)) (insts_forms ns gs b.insts ++ more_blocks_forms ns gs (at + 1) bs) (label_keep (slice_get ns.labels at))
       (keep_both (insts_forms ns gs b.insts) (more_blocks_forms ns gs (at + 1) bs) (insts_keep b.insts) (more_blocks_keep (at + 1) bs))
 
-  body_keep : (bs : List Block) → Keep (blocks_forms ns gs bs)
+  pub body_keep : (bs : List Block) → Keep (blocks_forms ns gs bs)
   body_keep [] = refl
   body_keep (b ∷ bs) =
       keep_both (label_forms b.name) (insts_forms ns gs b.insts ++ more_blocks_forms ns gs 1 bs) (label_keep b.name)

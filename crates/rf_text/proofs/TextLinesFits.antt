@@ -80,7 +80,7 @@ blocks_in f number op os targets incoming = All-weaker (IsTarget f) (λ b. b < l
 -- ---- the types of operands are shown
 
 module _ (m : Module) (f : Func) (once : NamedOnce (named_of f)) where
-  same_ty : (o : Opd) (t : Ty) → opd_ty m f o ≡ Some t → is_void t ≡ false → shown_ty (names_of f) m.globals o ≡ Some t
+  pub same_ty : (o : Opd) (t : Ty) → opd_ty m f o ≡ Some t → is_void t ≡ false → shown_ty (names_of f) m.globals o ≡ Some t
   same_ty (Val id) t e n =
       let l : Found id (names_of f).locals None t = found id 0 (named_of f) None t once (func_leads f id t e n) in
       ap (option_map (λ (l : Local). l.ty)) l.1 ∙ ap Some l.2

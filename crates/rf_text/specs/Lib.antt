@@ -1,11 +1,12 @@
 -- What laws of printed and read text speak of.
 pub mod Again
+pub mod Exact
 pub mod Headed
 pub mod KeptParts
+pub mod Limits
 pub mod LinesOf
 pub mod ModuleForms
-pub mod NamedItems
-pub mod PlacedForms
+pub mod OpaqueText
 pub mod Printable
 pub mod Printed
 pub mod Readable

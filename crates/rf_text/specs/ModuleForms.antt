@@ -1,8 +1,8 @@
--- The forms of the lines of a module's text, and the items of the draft that they are.
+-- The forms of the lines of a module's text.
 --
 -- A line feed between two blocks, or between a function and the item next to it, is an empty line; an empty line is counted and
--- dropped.
-use Rattle.std.specs.Prelude.{ℕ, ◌+◌, Bool, false, Option, None, Some, List, [], ◌∷◌, ◌++◌, length, slice_get}
+-- dropped. A line of an opaque function may have no form.
+use Rattle.std.specs.Prelude.{ℕ, ◌+◌, Bool, false, Option, None, Some, List, [], ◌∷◌, ◌++◌, map, slice_get}
 use Rattle.ir_lex.specs.Scan.{texts}
 use Rattle.ir_types.specs.declared.inst.Inst.{Inst}
 use Rattle.ir_types.specs.declared.func.Block.{Block}
@@ -13,13 +13,11 @@ use Rattle.ir_types.specs.declared.module.Module.{Module}
 use Rattle.ir_line.specs.declared.kept.Kept.{Kept as KeptLine}
 use Rattle.ir_line.specs.declared.line.Line.{Line}
 use Rattle.ir_line.specs.declared.line.Line.TheVariants as line
-use Rattle.ir_line.specs.declared.draft.Numbered.{Numbered}
-use Rattle.ir_line.specs.declared.draft.DraftItem.{DraftItem}
-use Rattle.ir_line.specs.declared.draft.DraftItem.TheVariants as draft
 use Rattle.ir_line.specs.Keeping.{kept_of}
 use Rattle.ir_print.specs.Names.{Names, names_of}
 use Rattle.ir_print.specs.Text.{is_function}
 use Rattle.rf_text.specs.Headed.{first_name, shown_head}
+use Rattle.rf_text.specs.OpaqueText.{opaque_forms}
 use Rattle.rf_text.specs.Written.{forms_of}
 
 -- ---- functions
@@ -56,54 +54,24 @@ func_forms gs f = line.Define (first_name f) (Some (shown_head (names_of f) f)) 
 abbrev pub kept_at : List ℕ → KeptLine
 kept_at text = kept_of text (texts text)
 
--- an opaque function has no forms
-abbrev pub item_forms : List (List ℕ) → Item → List Line
-item_forms gs (Kept text) = line.Kept (kept_at text) ∷ []
-item_forms gs (Opaque text) = []
-item_forms gs (FuncItem f) = func_forms gs f
+abbrev pub item_forms : List (List ℕ) → Item → List (Option Line)
+item_forms gs (Kept text) = Some (line.Kept (kept_at text)) ∷ []
+item_forms gs (Opaque text) = opaque_forms text
+item_forms gs (FuncItem f) = map Some (func_forms gs f)
 
-abbrev pub gap_forms : Bool → Bool → List Line
+abbrev pub gap_forms : Bool → Bool → List (Option Line)
 gap_forms false false = []
-gap_forms _ _ = line.Empty ∷ []
+gap_forms _ _ = Some line.Empty ∷ []
 
 -- items behind one that is a function or not
-abbrev pub more_items_forms : List (List ℕ) → Bool → List Item → List Line
+abbrev pub more_items_forms : List (List ℕ) → Bool → List Item → List (Option Line)
 more_items_forms gs before [] = []
 more_items_forms gs before (i ∷ is) = gap_forms before (is_function i) ++ (item_forms gs i ++ more_items_forms gs (is_function i) is)
 
-abbrev pub items_forms : List (List ℕ) → List Item → List Line
+abbrev pub items_forms : List (List ℕ) → List Item → List (Option Line)
 items_forms gs [] = []
 items_forms gs (i ∷ is) = item_forms gs i ++ more_items_forms gs (is_function i) is
 
 -- the forms of the lines of a module's text
-abbrev pub module_forms : Module → List Line
+abbrev pub module_forms : Module → List (Option Line)
 module_forms m = items_forms m.globals m.items
-
--- ---- the draft
-
--- lines of these forms with their numbers, the first of which is n; empty lines are dropped
-abbrev pub numbered_from : ℕ → List Line → List Numbered
-numbered_from n [] = []
-numbered_from n (line.Empty ∷ fs) = numbered_from (n + 1) fs
-numbered_from n (f ∷ fs) = record { line = n; form = f } ∷ numbered_from (n + 1) fs
-
--- an item whose first line has the number n
-abbrev pub draft_item : List (List ℕ) → ℕ → Item → DraftItem
-draft_item gs n (Kept text) = draft.Kept n (kept_at text)
-draft_item gs n (Opaque text) = draft.Opaque n None text
-draft_item gs n (FuncItem f) = draft.Func n (shown_head (names_of f) f) (numbered_from (n + 1) (body_forms gs f))
-
--- items, the first of whose lines, that of an empty line in front of it too, has the number n
-abbrev pub more_draft_items : List (List ℕ) → ℕ → Bool → List Item → List DraftItem
-more_draft_items gs n before [] = []
-more_draft_items gs n before (i ∷ is) =
-    draft_item gs (n + length (gap_forms before (is_function i))) i
-    ∷ more_draft_items gs (n + length (gap_forms before (is_function i)) + length (item_forms gs i)) (is_function i) is
-
-abbrev pub draft_items : List (List ℕ) → List Item → List DraftItem
-draft_items gs [] = []
-draft_items gs (i ∷ is) = draft_item gs 1 i ∷ more_draft_items gs (1 + length (item_forms gs i)) (is_function i) is
-
--- the draft that a module's text is
-abbrev pub printed_items : Module → List DraftItem
-printed_items m = draft_items m.globals m.items

@@ -20,6 +20,7 @@ use Rattle.ir_read.specs.Forms.{form_in}
 use Rattle.ir_read.specs.Outlook.{has}
 use Rattle.ir_read.specs.Items.{barred_in, has_other_pointers}
 use Rattle.rf_text.specs.Headed.{IsHeader}
+use Rattle.rf_text.specs.OpaqueText.{IsOpaqueText, opaque_forms, opaque_name, opaque_in}
 use Rattle.rf_text.specs.Shown.{IsPoisonIfPointer, is_call}
 use Rattle.rf_text.specs.Written.{shown_global}
 use Rattle.rf_text.specs.ModuleForms.{kept_at, module_forms}
@@ -78,7 +79,7 @@ pub record IsPlainLine (text : List ℕ) : Type 0 where
 
 abbrev pub IsPlainItem : Item → Type 0
 IsPlainItem (Kept text) = IsPlainLine text
-IsPlainItem (Opaque text) = ⊥
+IsPlainItem (Opaque text) = IsOpaqueText text
 IsPlainItem (FuncItem f) = IsPlainFunc f
 
 -- the name that a kept line gives, in front of others, where it is a global
@@ -92,11 +93,11 @@ globals_in [] = []
 globals_in (Kept text ∷ items) = global_before (kept_at text).global (kept_at text).symbol (globals_in items)
 globals_in (_ ∷ items) = globals_in items
 
--- the names of kept lines and of functions, in order
+-- the names of kept lines and of functions, opaque ones too, in order
 abbrev pub tops_in : List Item → List (List ℕ)
 tops_in [] = []
 tops_in (Kept text ∷ items) = in_front (kept_at text).symbol (tops_in items)
-tops_in (Opaque text ∷ items) = tops_in items
+tops_in (Opaque text ∷ items) = in_front (opaque_name text) (tops_in items)
 tops_in (FuncItem f ∷ items) = f.name ∷ tops_in items
 
 -- ---- operands
@@ -113,7 +114,12 @@ abbrev pub IsAllowedItem : Module → Item → Type 0
 IsAllowedItem m (FuncItem f) = All (IsAllowedBlock m) f.blocks
 IsAllowedItem m _ = Unit {0}
 
--- whether there is a function
+-- an opaque item is opaque among the lines of the module
+abbrev pub IsKeptOpaque : Module → Item → Type 0
+IsKeptOpaque m (Opaque text) = opaque_in (module_forms m) (opaque_forms text) ≡ true
+IsKeptOpaque m _ = Unit {0}
+
+-- whether there is a function of the profile
 abbrev pub has_function : List Item → Bool
 has_function [] = false
 has_function (FuncItem f ∷ items) = true
@@ -129,7 +135,9 @@ pub record IsPrintable (m : Module) : Type 0 where
   -- no name of the module is given twice
   pub once : AllPairs (λ (a b : List ℕ). a ≡ b → ⊥) (tops_in m.items)
   pub operands : All (IsAllowedItem m) m.items
-  -- pointers have 64 bits, where there is a function
+  -- a function is kept as it was only where it is opaque
+  pub opaques : All (IsKeptOpaque m) m.items
+  -- pointers have 64 bits, where there is a function of the profile
   pub pointers : has_function m.items ≡ true → has_other_pointers (module_forms m) ≡ false
   pub little_endian : m.big_endian_line ≡ None
 

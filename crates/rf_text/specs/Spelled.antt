@@ -2,8 +2,8 @@
 -- of ids. It is said of lines and names alone, without a reader's steps. A text that is accepted spells its module; and a formed module
 -- that a text spells is the one that it reads as, and the only one (`Spells`).
 --
--- From top to bottom: which forms the lines of a text have, which forms the items of a module have, and that these are those.
-use Rattle.std.specs.Prelude.{◌≡◌, refl, ℕ, ◌+◌, Bool, true, false, not, Option, None, Some, List, [], ◌∷◌, ◌++◌, codes}
+-- From top to bottom: lines of a function, which forms the header and the blocks of a function have, and that the lines of a text are items.
+use Rattle.std.specs.Prelude.{◌≡◌, refl, ℕ, ◌+◌, Bool, true, false, Option, None, Some, List, [], ◌∷◌, ◌++◌, map, codes}
 use Rattle.std.specs.Fmt.{digits}
 use Rattle.std.specs.List.{All, AllZip}
 use Rattle.ir_lex.specs.Bytes.{is_blank, is_sigil, is_mark, is_word_byte, is_control, begins_name}
@@ -15,7 +15,7 @@ use Rattle.ir_types.specs.declared.func.Param.{Param}
 use Rattle.ir_types.specs.declared.func.Block.{Block}
 use Rattle.ir_types.specs.declared.func.Func.{Func}
 use Rattle.ir_types.specs.declared.module.Item.{Item}
-use Rattle.ir_types.specs.declared.module.Item.TheVariants.{Kept, Func as FuncItem}
+use Rattle.ir_types.specs.declared.module.Item.TheVariants.{Kept, Opaque, Func as FuncItem}
 use Rattle.ir_types.specs.declared.module.Module.{Module}
 use Rattle.ir_line.specs.declared.head.Head.{Head}
 use Rattle.ir_line.specs.declared.line.Line.{Line}
@@ -24,29 +24,30 @@ use Rattle.ir_line.specs.Forms as form
 use Rattle.ir_line.specs.Body.{Spells as SpellsInside, NoWord, Brace, Formed}
 use Rattle.ir_line.specs.Outside.{Spells as SpellsOutside}
 use Rattle.ir_print.specs.Names.{Names, names_of, local_of}
+use Rattle.ir_read.specs.Forms.{form_in}
 use Rattle.ir_read.specs.Lines.{lines_of}
+use Rattle.ir_read.specs.Opaque.{is_opaque, joined}
+use Rattle.ir_read.specs.Outlook.{outlook_of}
 use Rattle.rf_text.specs.Headed.{first_name}
 use Rattle.rf_text.specs.Written.{shown_text, shown_block}
-use Rattle.rf_text.specs.ModuleForms.{insts_forms, kept_at}
+use Rattle.rf_text.specs.ModuleForms.{insts_forms, kept_at, module_forms}
 use Rattle.rf_text.specs.Printable.{IsPrintable, IsNumbered, IsCounted}
 
--- ---- the lines of a text
+-- ---- lines of a function
 
--- whether a line of this form is the first of a function
-abbrev pub opens : Line → Bool
-opens (line.Define name head) = true
-opens _ = false
-
--- whether it is the last
+-- whether a line of this form is the last of a function
 abbrev pub closes : Line → Bool
 closes line.Close = true
 closes _ = false
 
--- lines that spell these forms, where the first of them stands in a function or outside
-pub data AreForms : Bool → List (List ℕ) → List Line → Type 0 where
-  NoLine : (inside : Bool) → AreForms inside [] []
-  Inside : (l : List ℕ) (form : Line) (lines : List (List ℕ)) (forms : List Line) → SpellsInside l (cut l) form → AreForms (not (closes form)) lines forms → AreForms true (l ∷ lines) (form ∷ forms)
-  Outside : (l : List ℕ) (form : Line) (lines : List (List ℕ)) (forms : List Line) → SpellsOutside l (cut l) form → AreForms (opens form) lines forms → AreForms false (l ∷ lines) (form ∷ forms)
+-- lines that spell these forms inside a function; none of them is the brace
+pub data AreInside : List (List ℕ) → List Line → Type 0 where
+  NoLine : AreInside [] []
+  OneLine : (l : List ℕ) (form : Line) (lines : List (List ℕ)) (forms : List Line) → SpellsInside l (cut l) form → closes form ≡ false → AreInside lines forms → AreInside (l ∷ lines) (form ∷ forms)
+
+-- the line is the brace
+abbrev pub IsBrace : List ℕ → Type 0
+IsBrace l = SpellsInside l (cut l) line.Close
 
 -- without the empty lines
 abbrev pub solid : List Line → List Line
@@ -83,23 +84,25 @@ pub data AreBlocks (ns : Names) (gs : List (List ℕ)) : ℕ → List Block → 
   Labelled : (at : ℕ) (b : Block) (bs : List Block) (more : List Line) → AreBlocks ns gs (at + 1) bs more → AreBlocks ns gs at (b ∷ bs) (line.Label (shown_block ns at) ∷ (insts_forms ns gs b.insts ++ more))
   Unlabelled : (at : ℕ) (b : Block) (bs : List Block) (more : List Line) → b.name ≡ None → AreBlocks ns gs (at + 1) bs more → AreBlocks ns gs at (b ∷ bs) (insts_forms ns gs b.insts ++ more)
 
--- the lines of items: a kept line; and a function from its header to its brace
-pub data AreItems (gs : List (List ℕ)) : List Item → List Line → Type 0 where
-  NoItem : AreItems gs [] []
-  KeptItem : (text : List ℕ) (items : List Item) (more : List Line) → AreItems gs items more → AreItems gs (Kept text ∷ items) (line.Kept (kept_at text) ∷ more)
-  Function : (f : Func) (head : Head) (body : List Line) (items : List Item) (more : List Line) → IsHeaderOf f head → AreBlocks (names_of f) gs 0 f.blocks body → AreItems gs items more →
-      AreItems gs (FuncItem f ∷ items) (line.Define (first_name f) (Some head) ∷ (body ++ line.Close ∷ more))
-
 -- ---- a text and a module
+
+-- lines that are items, with empty lines between them, in a text whose lines have the forms `all`: a kept line; a function of the profile
+-- from its header to its brace; an opaque function, which is kept as its lines are
+pub data Laid (all : List (Option Line)) (gs : List (List ℕ)) : List Item → List (List ℕ) → Type 0 where
+  NoItem : Laid all gs [] []
+  EmptyLine : (l : List ℕ) (items : List Item) (lines : List (List ℕ)) → SpellsOutside l (cut l) line.Empty → Laid all gs items lines → Laid all gs items (l ∷ lines)
+  KeptItem : (l text : List ℕ) (items : List Item) (lines : List (List ℕ)) → SpellsOutside l (cut l) (line.Kept (kept_at text)) → Laid all gs items lines → Laid all gs (Kept text ∷ items) (l ∷ lines)
+  Function : (l brace : List ℕ) (f : Func) (head : Head) (body : List (List ℕ)) (forms : List Line) (items : List Item) (lines : List (List ℕ)) → SpellsOutside l (cut l) (line.Define (first_name f) (Some head)) → IsHeaderOf f head →
+      AreInside body forms → AreBlocks (names_of f) gs 0 f.blocks (solid forms) → IsBrace brace → Laid all gs items lines → Laid all gs (FuncItem f ∷ items) (l ∷ (body ++ brace ∷ lines))
+  OpaqueItem : (l brace : List ℕ) (name : Option (List ℕ)) (head : Option Head) (body : List (List ℕ)) (items : List Item) (lines : List (List ℕ)) → SpellsOutside l (cut l) (line.Define name head) →
+      All (λ m. IsBrace m → ⊥) body → IsBrace brace → is_opaque (outlook_of all) head (map (form_in true) body ++ Some line.Close ∷ []) ≡ true → Laid all gs items lines →
+      Laid all gs (Opaque (joined (l ∷ (body ++ brace ∷ []))) ∷ items) (l ∷ (body ++ brace ∷ lines))
 
 pub record Spelled (bytes : List ℕ) (m : Module) : Type 0 where
   -- no line has a lexical fault
   pub sound : All (λ l. fault_of l ≡ None) (lines_of bytes)
-  -- each has a form
-  pub forms : List Line
-  pub spells : AreForms false (lines_of bytes) forms
-  -- and empty lines aside they are the lines of the module
-  pub says : AreItems m.globals m.items (solid forms)
+  -- the lines are the items of the module
+  pub laid : Laid (module_forms m) m.globals m.items (lines_of bytes)
   -- whose names are such as text can have, each given once, and whose ids are 0, 1 and so on
   pub printable : IsPrintable m
   pub numbered : IsNumbered m
@@ -109,17 +112,19 @@ pub record Spelled (bytes : List ℕ) (m : Module) : Type 0 where
 -- ---- an example: a function with one parameter and one block, both without a name
 
 example_lines : List (List ℕ)
-example_lines = codes "  ret void ; done" ∷ [] ∷ codes "}" ∷ []
+example_lines = codes "  ret void ; done" ∷ [] ∷ []
 
 example_forms : List Line
-example_forms = line.Stmt (record { result = None; ty = Void; op = Ret; args = []; labels = [] }) ∷ line.Empty ∷ line.Close ∷ []
+example_forms = line.Stmt (record { result = None; ty = Void; op = Ret; args = []; labels = [] }) ∷ line.Empty ∷ []
 
 -- each line spells its form
-example_spells : AreForms true example_lines example_forms
+example_inside : AreInside example_lines example_forms
 unfolding example_lines example_forms cut more_len name_len is_blank is_sigil is_mark is_word_byte is_control begins_name word
-example_spells =
-    Inside _ _ _ _ (Formed form.Return refl (codes "void" ∷ [], refl, ([], refl, refl)))
-    (Inside _ _ _ _ (NoWord refl) (Inside _ _ _ _ (Brace refl) (NoLine false)))
+example_inside = OneLine _ _ _ _ (Formed form.Return refl (codes "void" ∷ [], refl, ([], refl, refl))) refl (OneLine _ _ _ _ (NoWord refl) refl NoLine)
+
+example_brace : IsBrace (codes " } ")
+unfolding cut more_len name_len is_blank is_sigil is_mark is_word_byte is_control begins_name word
+example_brace = Brace refl
 
 example : Func
 example = record {
@@ -149,6 +154,6 @@ numbered_header : IsHeaderOf example (header_with example (numbered ∷ []))
 unfolding example numbered header_with digits
 numbered_header = record { before = refl; ret = refl; name = refl; params = (record { name = AsShown None _; ty = refl; attrs = refl; noalias = refl }, tt); after = refl }
 
-example_says : AreItems [] (FuncItem example ∷ []) (line.Define (Some (codes "f")) (Some (header_with example (bare ∷ []))) ∷ solid example_forms)
-unfolding example bare header_with example_forms texts digits
-example_says = Function example _ _ [] [] bare_header (Unlabelled 0 _ [] [] refl (NoBlock 1)) NoItem
+example_blocks : AreBlocks (names_of example) [] 0 example.blocks (solid example_forms)
+unfolding example example_forms texts digits
+example_blocks = Unlabelled 0 _ [] [] refl (NoBlock 1)

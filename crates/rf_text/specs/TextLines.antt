@@ -1,5 +1,5 @@
 -- The lines of a module's text, and the form of each.
-use Rattle.std.specs.Prelude.{◌≡◌, refl, ℕ, None, Some, List, [], ◌∷◌, map, codes}
+use Rattle.std.specs.Prelude.{◌≡◌, refl, ℕ, None, List, [], ◌∷◌, codes}
 use Rattle.ir_lex.specs.Bytes.{is_blank, is_sigil, is_mark, is_word_byte, is_control, begins_name}
 use Rattle.ir_lex.specs.Scan.{cut, texts, more_len, name_len}
 use Rattle.ir_lex.specs.Words.{word}
@@ -23,12 +23,12 @@ use Rattle.rf_text.specs.LinesOf.{joined}
 use Rattle.rf_text.specs.ModuleForms.{module_forms}
 use Rattle.rf_text.specs.Printable.{IsPrintable, IsCounted}
 
--- the text of the module is lines without a lexical fault, which are read as the forms that the module has
+-- the text of the module is lines without a lexical fault, which are read as the forms that the module has, or have none as there
 pub record TextLines (m : Module) : Type 0 where
   pub lines : List (List ℕ)
   pub whole : text_of m ≡ joined lines
   -- a line of a function is read as one inside a function, any other as one outside
-  pub forms : forms_of lines ≡ map Some (module_forms m)
+  pub forms : forms_of lines ≡ module_forms m
   pub sound : first_fault 1 lines ≡ None
   -- they are the lines that the text is cut into
   pub again : lines_of (text_of m) ≡ lines
@@ -60,6 +60,6 @@ named_whole : text_of named ≡ joined named_lines
 unfolding named named_lines
 named_whole = refl
 
-named_forms : forms_of named_lines ≡ map Some (module_forms named)
+named_forms : forms_of named_lines ≡ module_forms named
 unfolding named named_lines form_in form_by read_outside cut texts more_len name_len is_blank is_sigil is_mark is_word_byte is_control begins_name keeps_mark keeps_word word symbol_of local_of act_of labelled_at header head_of ret_of params_at read_body read_form form plain_line act_line by_act returns
 named_forms = refl

@@ -5,22 +5,22 @@
 #![tactic(auto)]
 
 mod again;
+mod exact;
 mod instructions;
-mod named_items;
 mod outside;
-mod placed_forms;
 mod readable;
 mod spelled;
 mod text_lines;
 
 pub use again::{any_texts_are_read_again, renumbered_texts, texts_are_read_again};
+pub use exact::{
+    given_modules_are_within, read_and_resolved, resolved_as_read, spelled_texts_are_given,
+};
 pub use instructions::{printed_bodies, printed_braces, printed_instructions, printed_labels};
-pub use named_items::printed_items_are_named;
 pub use outside::{
     forms_are_of_lines, headers_again, headers_are_heads, heads_of_lines, kept_by_text,
     kept_lines_again, lines_again, params_are_shown, sound_are_lines,
 };
-pub use placed_forms::forms_are_placed;
 pub use readable::{read_modules_are_numbered, read_modules_are_printable};
 pub use spelled::{accepted_texts_spell, one_spelled_module, spelled_texts_read};
 pub use text_lines::texts_are_lines;
