@@ -1,6 +1,7 @@
 -- A draft that was read has headers of the profile and lines that stand where they may; resolved and well typed, it is formed.
-use Rattle.std.proofs.Common.{◌≡◌, ℕ, zero, suc, ◌+◌, ◌⊎◌, inl, inr, true, List, ◌∷◌, length, Ok, refl, ◌∙◌, ap}
-use Rattle.std.proofs.lemmas.List.Elements.{All-weaker}
+use Rattle.std.proofs.Common.{◌≡◌, ℕ, zero, suc, ◌+◌, ◌⊎◌, inl, inr, true, List, [], ◌∷◌, ◌++◌, length, Ok, refl, ◌∙◌, ap}
+use Rattle.std.specs.List.{All}
+use Rattle.std.proofs.lemmas.List.Elements.{All-nil, All-cons, All-weaker}
 use Rattle.ir_types.specs.declared.ty.Ty.{Ty}
 use Rattle.ir_types.specs.declared.ty.Ty.TheVariants.{Void, Int, Ptr, Row}
 use Rattle.ir_types.specs.declared.func.Param.{Param}
@@ -11,7 +12,11 @@ use Rattle.ir_line.specs.declared.draft.Draft.{Draft}
 use Rattle.ir_line.specs.declared.draft.DraftItem.{DraftItem}
 use Rattle.ir_line.specs.declared.draft.DraftItem.TheVariants as item
 use Rattle.ir_read.specs.Draft.{draft_of}
-use Rattle.ir_read.proofs.ReadBodies.{IsReadItem, draft_is_read}
+use Rattle.ir_read.specs.Bodies.{numbered_from}
+use Rattle.ir_read.specs.Opaque.{joined}
+use Rattle.ir_read.proofs.ItemsRead.{draft_items}
+use Rattle.ir_read.proofs.Placing.{Known}
+use Rattle.ir_read.proofs.ReadBodies.{body_is_read}
 use Rattle.ir_types_check.specs.declared.resolved.Resolved.{Resolved}
 use Rattle.ir_types_check.specs.Resolved.{resolved_of}
 use Rattle.ir_types_check.proofs.BodyFormed.{HasTypes}
@@ -19,6 +24,8 @@ use Rattle.ir_types_check.proofs.BodyIds as counted
 use Rattle.ir_types_check.proofs.ItemsFormed.{IsFitItem, FormedItems, resolved_is_formed}
 use Rattle.rf_text.specs.Headed.{is_returned, IsParam, IsHead}
 use Rattle.rf_text.specs.Printable.{ids_from}
+use Rattle.rf_text.proofs.Cut as cuts
+use Rattle.rf_text.proofs.Cut.{Cut, text_cut}
 use Rattle.rf_text.proofs.HeadsFound.{head_of_line}
 use Rattle.rf_formed.specs.Accepted.{AcceptedIsFormedButForWalks, AcceptedIsFormed, AcceptedIsNumbered}
 
@@ -34,13 +41,18 @@ has_types h is = record {
   params = All-weaker IsParam (λ (p : Param). is_value p.ty ≡ true) (λ p f. f.typed) h.params is.parts.typed;
 }
 
-fits : (x : DraftItem) → IsReadItem IsHead x → IsFitItem x
-fits (item.Kept n kept) h = tt
-fits (item.Opaque n name text) h = tt
-fits (item.Func n head body) h = record { types = has_types head h.headed; stands = h.stands }
+-- each function of a text has a header of the profile and lines that stand where they may
+cut_fits : {known : Known} {n : ℕ} {ls : List (List ℕ)} {xs : List DraftItem} → Cut known n ls xs → All IsFitItem xs
+cut_fits (cuts.NoLine n) = All-nil IsFitItem
+cut_fits (cuts.EmptyLine n l ls xs is c) = cut_fits c
+cut_fits (cuts.KeptLine n l kept ls xs is c) = All-cons IsFitItem (item.Kept n kept) xs tt (cut_fits c)
+cut_fits {known} (cuts.FunctionLines n l name head body forms brace ls xs first p q k is own params are stand shut last c) =
+    All-cons IsFitItem (item.Func n head (numbered_from (n + 1) forms)) xs
+    (record { types = has_types head (head_of_line l name head is); stands = body_is_read known.names (n + 1) k first p q body forms are stand shut }) (cut_fits c)
+cut_fits (cuts.OpaqueLines n l name head body brace ls xs is own inside last c) = All-cons IsFitItem (item.Opaque n name (joined (l ∷ (body ++ brace ∷ [])))) xs tt (cut_fits c)
 
 formed_items : (bytes : List ℕ) (d : Draft) (r : Resolved) → draft_of bytes ≡ Ok d → resolved_of d ≡ Ok r → FormedItems r.«module»
-formed_items bytes d r read resolved = resolved_is_formed d r (All-weaker (IsReadItem IsHead) IsFitItem fits d.items (draft_is_read IsHead head_of_line bytes d read)) resolved
+formed_items bytes d r read resolved = resolved_is_formed d r (cut_fits (text_cut bytes d.items (draft_items bytes d read))) resolved
 
 pub formed_but_for_walks : AcceptedIsFormedButForWalks
 formed_but_for_walks bytes d r read resolved =
