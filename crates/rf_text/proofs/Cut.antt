@@ -161,6 +161,7 @@ module _ (known : Known) (all : List (List ℕ)) where
         cut = subst (λ ms. Cut known n (l ∷ ms) (item.Func n head (numbered_from (n + 1) r.forms) ∷ r.items)) (sym r.lines)
             (FunctionLines n l name head r.body r.forms r.brace r.rest r.items first r.p r.q r.k is opaque params r.forms_are r.stand r.shut r.is_brace r.cut);
       })))
+
   -- ---- a line outside functions
 
   outside_cut : (n : ℕ) (done : Read) (l : List ℕ) (ls : List (List ℕ)) (xs : List DraftItem) → drop (n - 1) all ≡ l ∷ ls → Next (n + 1) ls xs → (f : Option Line) → form_in false l ≡ f →
@@ -202,7 +203,7 @@ module _ (known : Known) (all : List (List ℕ)) where
     is_brace = r.is_brace;
     whole =
         r.whole ∙ ap (λ (b : List Numbered). done.items ++ item.Func o.line o.head b ∷ r.items)
-            (append_assoc o.body (record { line = n; form = f } ∷ []) (numbered_from (n + 1) r.forms) ∙ ap (λ (b : List Numbered). o.body ++ b) (sym (number r.forms)));
+        (append_assoc o.body (record { line = n; form = f } ∷ []) (numbered_from (n + 1) r.forms) ∙ ap (λ (b : List Numbered). o.body ++ b) (sym (number r.forms)));
     cut = let same : n + 1 + length r.body + 1 ≡ n + suc (length r.body) + 1 = omega arith in subst (λ j. Cut known j r.rest r.items) same r.cut;
   }
 

@@ -220,9 +220,9 @@ inside_parts [] (f ∷ fs) e all = no_form e
 inside_parts (l ∷ ls) [] e all =
     let is : form_in true l ≡ Some line.Close = first_form e in
     record { body = []; last = l; lines = ap (λ xs. l ∷ xs) (none ls (ap (λ f. forms_from (inside_after true f) ls) (sym is) ∙ more_forms e)); inside = All-nil IsBodyLine; brace = is } where
-  none : (ls : List (List ℕ)) → forms_from false ls ≡ [] → ls ≡ []
-  none [] e = refl
-  none (l ∷ ls) e = no_form (sym e)
+      none : (ls : List (List ℕ)) → forms_from false ls ≡ [] → ls ≡ []
+      none [] e = refl
+      none (l ∷ ls) e = no_form (sym e)
 inside_parts (l ∷ ls) (f ∷ fs) e all =
     let is : form_in true l ≡ f = first_form e in
     let free : IsNoBrace f = All-head IsNoBrace f fs all in

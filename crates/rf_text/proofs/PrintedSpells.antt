@@ -174,9 +174,9 @@ split [] [] keep e = no_form e
 split [] (l ∷ ls) keep e =
     let is : form_in true l ≡ Some line.Close = first_form e in
     record { body = []; brace = l; whole = ap (λ xs. l ∷ xs) (none ls (ap (λ f. forms_from (inside_after true f) ls) (sym is) ∙ more_forms' e)); inside = NoLine; last = inside_line l line.Close is } where
-  none : (ls : List (List ℕ)) → forms_from false ls ≡ [] → ls ≡ []
-  none [] e = refl
-  none (l ∷ ls) e = no_form (sym e)
+      none : (ls : List (List ℕ)) → forms_from false ls ≡ [] → ls ≡ []
+      none [] e = refl
+      none (l ∷ ls) e = no_form (sym e)
 split (f ∷ fs) [] keep e = no_form e
 split (f ∷ fs) (l ∷ ls) keep e =
     let is : form_in true l ≡ Some f = first_form e in

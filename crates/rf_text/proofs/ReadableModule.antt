@@ -284,12 +284,12 @@ module _ (m : Module) (other : Bool) where
   opaques_kept (x ∷ xs) [] zip all = absurd zip
   opaques_kept (x ∷ xs) (i ∷ is) zip all =
       All-cons (IsKeptOpaque m) i is (here x i zip.0 (All-head (IsRead Barred (has_other_pointers (module_forms m))) x xs all)) (opaques_kept xs is zip.1 (All-tail (IsRead Barred (has_other_pointers (module_forms m))) x xs all)) where
-    here : (x : DraftItem) (i : Item) → IsOf Barred (has_other_pointers (module_forms m)) m.globals x i → IsRead Barred (has_other_pointers (module_forms m)) x → IsKeptOpaque m i
-    here x (items.Kept text) is r = tt
-    here x (items.Func f) is r = tt
-    here (item.Opaque n name text) (items.Opaque said) is r = ap (λ t. opaque_in (module_forms m) (opaque_forms t)) is ∙ kept_in (opaque_forms text) r.kept
-    here (item.Kept n kept) (items.Opaque said) is r = absurd is
-    here (item.Func n head body) (items.Opaque said) is r = absurd is
+        here : (x : DraftItem) (i : Item) → IsOf Barred (has_other_pointers (module_forms m)) m.globals x i → IsRead Barred (has_other_pointers (module_forms m)) x → IsKeptOpaque m i
+        here x (items.Kept text) is r = tt
+        here x (items.Func f) is r = tt
+        here (item.Opaque n name text) (items.Opaque said) is r = ap (λ t. opaque_in (module_forms m) (opaque_forms t)) is ∙ kept_in (opaque_forms text) r.kept
+        here (item.Kept n kept) (items.Opaque said) is r = absurd is
+        here (item.Func n head body) (items.Opaque said) is r = absurd is
 
 -- ---- the module
 

@@ -158,8 +158,8 @@ module _ (m : Module) (f : Func) (tops : Scope TopMeaning) (base : ℕ) (known :
   ret_fits (o ∷ os) (inr h) =
       let ty : opd_ty m f o ≡ Some f.ret = first h.1 in
       ap (λ t. same_ty t f.ret) (shown_is o f.ret (fitting.same_ty m f once o f.ret ty (no_void f.ret h.0))) ∙ same_itself f.ret where
-    first : {a b : Option Ty} {xs ys : List (Option Ty)} → a ∷ xs ≡ b ∷ ys → a ≡ b
-    first e = cc
+        first : {a b : Option Ty} {xs ys : List (Option Ty)} → a ∷ xs ≡ b ∷ ys → a ≡ b
+        first e = cc
 
   -- ---- targets
 

@@ -420,13 +420,13 @@ module _ (m : Module) (f : Func) (tops : Scope TopMeaning) (base : ℕ) (known :
       let is : sources_from (scope_of f) start (replicate (length f.blocks) []) body ≡ edges_marks 0 0 (marks f.blocks) (replicate (length f.blocks) []) =
       sources_said (marks f.blocks) body start 0 0 false (replicate (length f.blocks) []) says ends at_start (blocks_there 0 f.blocks each plain.blocks) in
       let edges : (c to : ℕ) → to < length f.blocks → count c (sources_at (sources_from (scope_of f) start (replicate (length f.blocks) []) body) to) ≡ hits to (targets_at (graph_of f) c) = λ c to less.
-          let size : length {A = List ℕ} (replicate (length f.blocks) []) ≡ length f.blocks = length-replicate (length f.blocks) [] in
-          let counted : count c (sources_at (edges_marks 0 0 (marks f.blocks) (replicate (length f.blocks) [])) to) ≡ count c (sources_at (replicate (length f.blocks) []) to) + hits to (row c 0 0 (marks f.blocks)) =
-          edges_counted c to (marks f.blocks) 0 0 (replicate (length f.blocks) []) (omega (arith, size, less)) in
-          let nothing_yet : count c (sources_at (replicate (length f.blocks) []) to) ≡ 0 = no_sources (length f.blocks) c to in
-          let rows : row c 0 0 (marks f.blocks) ≡ targets_at (graph_of f) c = blocks_row 0 0 c c f.blocks (omega arith) ∙ sym (graph_rows f.blocks c (whole_blocks f.blocks 0 each)) in
-          let all : count c (sources_at (edges_marks 0 0 (marks f.blocks) (replicate (length f.blocks) [])) to) ≡ hits to (row c 0 0 (marks f.blocks)) = omega (arith, counted, nothing_yet) in
-          ap (λ xs. count c (sources_at xs to)) is ∙ all ∙ ap (hits to) rows in
+      let size : length {A = List ℕ} (replicate (length f.blocks) []) ≡ length f.blocks = length-replicate (length f.blocks) [] in
+      let counted : count c (sources_at (edges_marks 0 0 (marks f.blocks) (replicate (length f.blocks) [])) to) ≡ count c (sources_at (replicate (length f.blocks) []) to) + hits to (row c 0 0 (marks f.blocks)) =
+      edges_counted c to (marks f.blocks) 0 0 (replicate (length f.blocks) []) (omega (arith, size, less)) in
+      let nothing_yet : count c (sources_at (replicate (length f.blocks) []) to) ≡ 0 = no_sources (length f.blocks) c to in
+      let rows : row c 0 0 (marks f.blocks) ≡ targets_at (graph_of f) c = blocks_row 0 0 c c f.blocks (omega arith) ∙ sym (graph_rows f.blocks c (whole_blocks f.blocks 0 each)) in
+      let all : count c (sources_at (edges_marks 0 0 (marks f.blocks) (replicate (length f.blocks) [])) to) ≡ hits to (row c 0 0 (marks f.blocks)) = omega (arith, counted, nothing_yet) in
+      ap (λ xs. count c (sources_at xs to)) is ∙ all ∙ ap (hits to) rows in
       lines_said (sources_from (scope_of f) start (replicate (length f.blocks) []) body) (marks f.blocks) body start 0 0 false says ends at_start
       (blocks_typed (sources_from (scope_of f) start (replicate (length f.blocks) []) body) edges (no_entry formed) 0 0 f.blocks (omega arith) each plain.blocks)
 
