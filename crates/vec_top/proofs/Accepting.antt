@@ -9,6 +9,7 @@ use Rattle.ir_types.specs.declared.func.Func.{Func}
 use Rattle.ir_types.specs.declared.module.Item.{Item}
 use Rattle.ir_types.specs.declared.module.Item.TheVariants.{Kept, Opaque, Func as FuncItem}
 use Rattle.ir_types.specs.declared.module.Module.{Module}
+use Rattle.ir_types.specs.Formed.{IsFormed}
 use Rattle.ir_types.specs.Available.{IsAvailable, IsFirstMiss, InstMisses, BlockMisses, FuncMisses, ItemMisses, OpdMisses, IsAvailableOpd, IsAvailableInst, IsAvailableBlock, IsAvailableFunc, IsAvailableItem, First, Each}
 use Rattle.ir_line.specs.declared.draft.Draft.{Draft}
 use Rattle.ir_read.specs.Draft.{draft_of}
@@ -21,8 +22,10 @@ use Rattle.ir_types_check.specs.declared.resolved.Resolved.{Resolved}
 use Rattle.ir_types_check.specs.Resolved.{resolved_of}
 use Rattle.ir_read.proofs.ItemsRead.{draft_items}
 use Rattle.ir_types_check.proofs.NamesHold.{names_hold}
-use Rattle.rf_formed.proofs.AcceptedModules.{formed, numbered}
-use Rattle.rf_text.proofs.ReadableModule.{read_back}
+use Rattle.rf_formed.proofs.AcceptedModules.{formed}
+use Rattle.rf_text.specs.Exact.{Gives}
+use Rattle.rf_text.specs.Spelled.{Spelled}
+use Rattle.rf_text.proofs.Given.{spelled_given, given_within}
 use Rattle.rf_text.proofs.SpelledModule.{texts_spell}
 use Rattle.vec_top.specs.declared.cause.Cause.{Cause}
 use Rattle.vec_top.specs.declared.cause.Cause.TheVariants.{Lex, NotALine, Misplaced, Passes, TwiceDefined, Unknown, IllTyped, NotAvailable, BigEndian}
@@ -80,21 +83,37 @@ unresolved bytes r refusal p q =
     let same : p.draft ≡ q.draft = same_draft bytes p.draft q.draft p.drafted q.drafted in
     let x : Err refusal ≡ Ok r = sym p.refused ∙ ap resolved_of same ∙ q.resolved in cc
 
+-- a text that is accepted resolves to the module that it is
+
+pub given : (bytes : List ℕ) (m : Module) → Accepts bytes m → (r : Resolved) × Resolves bytes r × (r.«module» ≡ m)
+given bytes m a =
+    let g : Gives bytes m = spelled_given bytes m a.spelled a.formed a.within in
+    (g.resolved, record { draft = g.draft; drafted = g.drafted; resolved = g.resolves }, g.is)
+
+unread_again : (bytes : List ℕ) (m : Module) (refusal : ReadRefusal) → draft_of bytes ≡ Err refusal → Accepts bytes m → ⊥
+unread_again bytes m refusal c a = let g : (r : Resolved) × Resolves bytes r × (r.«module» ≡ m) = given bytes m a in unread bytes g.0 refusal c g.1
+
+unresolved_again : (bytes : List ℕ) (m : Module) (refusal : ResolveRefusal) → IsUnresolved bytes refusal → Accepts bytes m → ⊥
+unresolved_again bytes m refusal c a = let g : (r : Resolved) × Resolves bytes r × (r.«module» ≡ m) = given bytes m a in unresolved bytes g.0 refusal c g.1
+
+pub resolved_again : (bytes : List ℕ) (m : Module) (r : Resolved) → Resolves bytes r → Accepts bytes m → r.«module» ≡ m
+resolved_again bytes m r c a =
+    let g : (s : Resolved) × Resolves bytes s × (s.«module» ≡ m) = given bytes m a in
+    ap (λ (s : Resolved). s.«module») (resolves_once bytes r g.0 c g.1) ∙ g.2
+
 -- a text against which there is a cause is no module that is accepted
 pub refused_for_good : (bytes : List ℕ) (cause : Cause) → IsCause bytes cause → (m : Module) → Accepts bytes m → ⊥
-refused_for_good bytes (Lex line byte) c m a = unread bytes _ _ c a.resolves
-refused_for_good bytes (NotALine line) c m a = unread bytes _ _ c a.resolves
-refused_for_good bytes (Misplaced line) c m a = unread bytes _ _ c a.resolves
-refused_for_good bytes (Passes limit) c m a = unread bytes _ _ c a.resolves
-refused_for_good bytes (TwiceDefined line name) c m a = unresolved bytes _ _ c a.resolves
-refused_for_good bytes (Unknown line name) c m a = unresolved bytes _ _ c a.resolves
-refused_for_good bytes (IllTyped line) c m a = unresolved bytes _ _ c a.resolves
+refused_for_good bytes (Lex line byte) c m a = unread_again bytes m _ c a
+refused_for_good bytes (NotALine line) c m a = unread_again bytes m _ c a
+refused_for_good bytes (Misplaced line) c m a = unread_again bytes m _ c a
+refused_for_good bytes (Passes limit) c m a = unread_again bytes m _ c a
+refused_for_good bytes (TwiceDefined line name) c m a = unresolved_again bytes m _ c a
+refused_for_good bytes (Unknown line name) c m a = unresolved_again bytes m _ c a
+refused_for_good bytes (IllTyped line) c m a = unresolved_again bytes m _ c a
 refused_for_good bytes (NotAvailable line name walk) c m a =
-    let same : c.0.«module» ≡ m = ap (λ (r : Resolved). r.«module») (resolves_once bytes _ _ c.1 a.resolves) in
-    module_fails c.2.user c.2.slot walk c.0.«module» c.2.first (subst (λ n. IsAvailable n) (sym same) a.formed.available)
+    module_fails c.2.user c.2.slot walk c.0.«module» c.2.first (subst (λ n. IsAvailable n) (sym (resolved_again bytes m c.0 c.1 a)) a.formed.available)
 refused_for_good bytes (BigEndian line) c m a =
-    let same : c.0.«module» ≡ m = ap (λ (r : Resolved). r.«module») (resolves_once bytes _ _ c.1 a.resolves) in
-    let x : Some line ≡ None = sym c.3 ∙ ap (λ (n : Module). n.big_endian_line) same ∙ a.little_endian in cc
+    let x : Some line ≡ None = sym c.3 ∙ ap (λ (n : Module). n.big_endian_line) (resolved_again bytes m c.0 c.1 a) ∙ a.little_endian in cc
 
 -- the steps of accepting
 
@@ -106,12 +125,13 @@ blamed bytes r AvailNoMemory fault resolves first e = subst (λ f. EndsBy bytes 
 
 pub ordered : (bytes : List ℕ) (r : Resolved) (answer : Result Module Fault) → Resolves bytes r → IsAvailable r.«module» → Orders r.«module» answer → AcceptsTo bytes answer
 ordered bytes r (Ok m) resolves fine o =
+    let spelled : Spelled bytes r.«module» = texts_spell bytes resolves.draft r resolves.drafted resolves.resolved o.1 in
+    let fit : IsFormed r.«module» = formed bytes resolves.draft r resolves.drafted resolves.resolved fine in
     subst (λ n. Accepts bytes n) (sym o.0) (record {
       reads = record { items = resolves.draft.items; says = draft_items bytes resolves.draft resolves.drafted; named = names_hold resolves.draft r resolves.resolved };
-      spelled = texts_spell bytes resolves.draft r resolves.drafted resolves.resolved o.1;
-      lines = r.lines;
-      resolves = resolves;
-      formed = formed bytes resolves.draft r resolves.drafted resolves.resolved fine;
+      spelled = spelled;
+      formed = fit;
+      within = given_within bytes r.«module» spelled fit (record { draft = resolves.draft; drafted = resolves.drafted; resolved = r; resolves = resolves.resolved; is = refl });
       little_endian = o.1;
     })
 ordered bytes r (Err (Refused (BigEndian line))) resolves fine o = (r, resolves, fine, o)
@@ -131,8 +151,4 @@ ordered bytes r (Err NoMemory) resolves fine o = absurd o
 
 -- a module that is accepted may be worked on
 pub ready : (bytes : List ℕ) (m : Module) → Accepts bytes m → IsReady m
-ready bytes m a = record {
-  formed = a.formed;
-  printable = (read_back bytes m a.reads a.little_endian).0;
-  numbered = numbered bytes a.resolves.draft (record { «module» = m; lines = a.lines }) a.resolves.drafted a.resolves.resolved;
-}
+ready bytes m a = record { formed = a.formed; printable = a.spelled.printable; numbered = a.spelled.numbered }

@@ -1,3 +1,4 @@
 pub mod Accepting
+pub mod Completing
 pub mod Counting
 pub mod Outcomes

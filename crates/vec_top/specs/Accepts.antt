@@ -22,6 +22,7 @@ use Rattle.ir_types_check.specs.declared.refusal.ResolveRefusal.{ResolveRefusal}
 use Rattle.ir_types_check.specs.declared.refusal.ResolveRefusal.TheVariants as unresolved
 use Rattle.ir_types_check.specs.declared.resolved.Resolved.{Resolved}
 use Rattle.ir_types_check.specs.Resolved.{resolved_of}
+use Rattle.rf_text.specs.Limits.{IsWithinLimits}
 use Rattle.rf_text.specs.Reads.{Reads}
 use Rattle.rf_text.specs.Spelled.{Spelled}
 use Rattle.vec_top.specs.declared.cause.Cause.{Cause}
@@ -39,11 +40,9 @@ pub record Accepts (bytes : List ℕ) (m : Module) : Type 0 where
   pub reads : Reads bytes m
   -- each line spells what the module has there
   pub spelled : Spelled bytes m
-  -- it is within the limits, and well typed
-  pub lines : List ℕ
-  pub resolves : Resolves bytes (record { «module» = m; lines = lines })
-  -- the module is formed, each use being available along every walk, and its layout has the low byte first
+  -- the module is formed, well typed and each use available along every walk; it is within the limits; its layout has the low byte first
   pub formed : IsFormed m
+  pub within : IsWithinLimits m
   pub little_endian : m.big_endian_line ≡ None
 
 -- the text is a draft whose names or types do not resolve

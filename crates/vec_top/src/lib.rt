@@ -6,11 +6,13 @@
 
 mod accept;
 mod cause;
+mod complete;
 mod counts;
 mod fault;
 mod results;
 mod top;
 
+pub use complete::accepted_is_done;
 pub use top::sandvec_alone;
 
 #[cfg(test)]
