@@ -3,6 +3,7 @@ pub mod Lists
 pub mod Effects
 pub mod Swaps
 pub mod Numbers
+pub mod Partitions
 pub mod Schedules
 pub mod Windows
 pub mod Orders

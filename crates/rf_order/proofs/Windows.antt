@@ -65,7 +65,7 @@ abbrev pub places_from : ℕ → List Inst → List ℕ
 places_from at [] = []
 places_from at (i ∷ is) = at ∷ places_from (suc at) is
 
-places_ascend : (at low : ℕ) (is : List Inst) → low ≤ at → Ascends low (places_from at is)
+pub places_ascend : (at low : ℕ) (is : List Inst) → low ≤ at → Ascends low (places_from at is)
 places_ascend at low [] h = tt
 places_ascend at low (i ∷ is) h = (h, places_ascend (suc at) (at + 1) is (omega arith))
 
@@ -83,13 +83,13 @@ places_within at (i ∷ is) x h = by_first (head_or_more at x (places_from (suc 
   by_first (inl e) more = (omega arith, omega arith)
   by_first (inr k) more = let r = more k in let a = r.0 in let b = r.1 in (omega arith, omega arith)
 
-places_all : (is : List Inst) (x : ℕ) → has (places_from 0 is) x ≡ nat_lt x (length is)
+pub places_all : (is : List Inst) (x : ℕ) → has (places_from 0 is) x ≡ nat_lt x (length is)
 places_all is x = by_test (nat_lt x (length is)) refl where
   by_test : (b : Bool) → nat_lt x (length is) ≡ b → has (places_from 0 is) x ≡ b
   by_test true e = places_have 0 is x (omega arith) (grind (arith, nat_tests))
   by_test false e = not_true (has (places_from 0 is) x) (λ h. (let r = places_within 0 is x h in let l = r.1 in true_false (let t : nat_lt x (length is) ≡ true = grind (arith, nat_tests) in sym t ∙ e)))
 
-places_long : (at : ℕ) (is : List Inst) → length (places_from at is) ≡ length is
+pub places_long : (at : ℕ) (is : List Inst) → length (places_from at is) ≡ length is
 places_long at [] = refl
 places_long at (i ∷ is) = ap suc (places_long (suc at) is)
 
