@@ -19,3 +19,4 @@ pub mod Phis
 pub mod Entered
 pub mod Leading
 pub mod Functions
+pub mod Modules

@@ -4,7 +4,7 @@
 
 ghost use Rattle.rf_order.specs.Swaps.{EffectsSwap};
 ghost use Rattle.rf_order.specs.Blocks.{BlocksRefine, ExitsAreEntered, ExitsLeadOn, PhisAreEntered, StartsAreEntered, WholeBlocksRefine};
-ghost use Rattle.rf_order.specs.Functions.{FunctionsRefine, OutcomesRefine};
+ghost use Rattle.rf_order.specs.Functions.{FunctionsRefine, ModulesRefine, OutcomesRefine};
 ghost use Rattle.rf_order.specs.Ready.{AccessesKeepApart, NeighboursSwap, RowsRefine, StepsKeepReady, WindowsRefine};
 ghost use Rattle.rf_order.specs.Steps.{StepsSwap};
 ghost use Rattle.rf_order.specs.Windows.{GroupsPartition, OrdersReorder};
@@ -97,4 +97,9 @@ pub fn functions_refine()
 /// As long as calls are not read: the outcome of a function with one block in the order of its window refines the function's in the module.
 pub fn outcomes_refine()
     ensures { OutcomesRefine }
+{}
+
+/// As long as calls are not read, a formed module with one block of a function in the order of its window refines what it was.
+pub fn modules_refine()
+    ensures { ModulesRefine }
 {}
