@@ -35,9 +35,7 @@ use Rattle.rf_order.specs.Ready.{Known, IsStatement, is_known, IsReady}
 use Rattle.rf_order.proofs.Shapes.{OpdsShape}
 use Rattle.rf_order.proofs.Addresses.{symbol_value, led_to, two_opds, known_opd, uses_here, uses_later, shapes_of, led_pointers}
 use Rattle.rf_order.proofs.Sums.{sum_walk}
-
-true_false : true ≡ false → ⊥
-true_false e = cc
+use Rattle.rf_order.proofs.Tests.{and_left, and_right, true_false}
 
 abbrev object_at : Pointer → ℕ
 object_at None = 0
@@ -76,18 +74,6 @@ past_apart first second a b d e h = by_case (int_le (pos first) d) refl h where
   by_case : (t : Bool) → int_le (pos first) d ≡ t → t || int_le d (neg_ℤ (pos second)) ≡ true → (a + first ≤ b) ⊎ (b + second ≤ a)
   by_case true t h = inl (grind (arith, ints))
   by_case false t h = inr (grind (arith, ints))
-
-or_case : (a b : Bool) → a || b ≡ true → (a ≡ true) ⊎ (b ≡ true)
-or_case true b h = inl refl
-or_case false b h = inr h
-
-and_left : (a b : Bool) → a && b ≡ true → a ≡ true
-and_left true b h = refl
-and_left false b h = absurd cc
-
-and_right : (a b : Bool) → a && b ≡ true → b ≡ true
-and_right true b h = h
-and_right false b h = absurd cc
 
 -- ---- forms
 

@@ -37,37 +37,7 @@ use Rattle.rf_order.specs.Ready.{Known, next, IsStatement, MayRunAll, is_known, 
 use Rattle.rf_order.specs.Blocks.{ArePhis, NoPhis, IsEntered, IsCut, BlocksRefine}
 use Rattle.rf_order.proofs.Shapes.{step_ready}
 use Rattle.rf_order.proofs.Refined.{NoEnds, insts_append, windows}
-
-true_false : true ≡ false → ⊥
-true_false e = cc
-
-not_true : (b : Bool) → (b ≡ true → ⊥) → b ≡ false
-not_true true h = absurd (h refl)
-not_true false h = refl
-
-or_case : (a b : Bool) → a || b ≡ true → (a ≡ true) ⊎ (b ≡ true)
-or_case true b h = inl refl
-or_case false b h = inr h
-
-or_first : (a b : Bool) → a ≡ true → (a || b) ≡ true
-or_first true b h = refl
-or_first false b h = absurd cc
-
-or_second : (a b : Bool) → b ≡ true → (a || b) ≡ true
-or_second true b h = refl
-or_second false b h = h
-
-neither : (a b : Bool) → a ≡ false → b ≡ false → (a || b) ≡ false
-neither false b h k = k
-neither true b h k = absurd cc
-
-no_left : (a b : Bool) → a || b ≡ false → a ≡ false
-no_left false b h = refl
-no_left true b h = absurd cc
-
-no_right : (a b : Bool) → a || b ≡ false → b ≡ false
-no_right false b h = h
-no_right true b h = absurd cc
+use Rattle.rf_order.proofs.Tests.{and_left, and_right, neither, not_true, or_case, or_first, or_left, or_right, or_second, true_false}
 
 abbrev Ids : List Inst → List Id
 Ids is = map (λ (i : Inst). i.id) is
@@ -83,7 +53,7 @@ find_own (j ∷ is) (suc k) i e once =
 
 find_none : (is : List Inst) (x : Id) → among (Ids is) x ≡ false → find x is ≡ None
 find_none [] x h = refl
-find_none (i ∷ is) x h = ap (λ b. cond b (Some i) (find x is)) (no_left (same_id i.id x) (among (Ids is) x) h) ∙ find_none is x (no_right (same_id i.id x) (among (Ids is) x) h)
+find_none (i ∷ is) x h = ap (λ b. cond b (Some i) (find x is)) (or_left (same_id i.id x) (among (Ids is) x) h) ∙ find_none is x (or_right (same_id i.id x) (among (Ids is) x) h)
 
 in_none : (bs : List Block) (x : Id) (func number : ℕ) → among (block_ids bs) x ≡ false → standing_in x func number bs ≡ None
 in_none [] x func number h = refl
@@ -94,7 +64,7 @@ in_none (b ∷ bs) x func number h =
 param_none : (ps : List Param) (x : Id) → among (map (λ (p : Param). p.id) ps) x ≡ false → param_in x ps ≡ None
 param_none [] x h = refl
 param_none (p ∷ ps) x h =
-    ap (λ b. cond b (Some p) (param_in x ps)) (no_left (same_id p.id x) (among (map (λ (p : Param). p.id) ps) x) h) ∙ param_none ps x (no_right (same_id p.id x) (among (map (λ (p : Param). p.id) ps) x) h)
+    ap (λ b. cond b (Some p) (param_in x ps)) (or_left (same_id p.id x) (among (map (λ (p : Param). p.id) ps) x) h) ∙ param_none ps x (or_right (same_id p.id x) (among (map (λ (p : Param). p.id) ps) x) h)
 
 abbrev FoundIs : Option Standing → Inst → Type 0
 FoundIs o i = (s : Standing) × (o ≡ Some s) × (s.inst ≡ i)
@@ -412,14 +382,6 @@ get_front [] ys k h = absurd (omega arith)
 get_front (x ∷ xs) ys zero h = refl
 get_front (x ∷ xs) ys (suc k) h = get_front xs ys k (omega arith)
 
-and_right : (a b : Bool) → a && b ≡ true → b ≡ true
-and_right true b h = h
-and_right false b h = absurd cc
-
-and_left : (a b : Bool) → a && b ≡ true → a ≡ true
-and_left true b h = refl
-and_left false b h = absurd cc
-
 not_false : (b : Bool) → not b ≡ true → b ≡ false
 not_false false h = refl
 not_false true h = absurd cc
@@ -590,7 +552,7 @@ module _ (m : Module) (f : Func) (walk : List ℕ) (at : ℕ) (b : Block) (phis 
     absent : (xs : List Inst) → among (Ids xs) x.id ≡ false → list_any (same_id x.id) (Ids xs) ≡ false
     absent [] h = refl
     absent (y ∷ xs) h =
-        neither (same_id x.id y.id) (list_any (same_id x.id) (Ids xs)) (swapped x.id y.id ∙ no_left (same_id y.id x.id) (among (Ids xs) x.id) h) (absent xs (no_right (same_id y.id x.id) (among (Ids xs) x.id) h))
+        neither (same_id x.id y.id) (list_any (same_id x.id) (Ids xs)) (swapped x.id y.id ∙ or_left (same_id y.id x.id) (among (Ids xs) x.id) h) (absent xs (or_right (same_id y.id x.id) (among (Ids xs) x.id) h))
 
   pub window_once : AreOnce (ids_of_insts insts)
   window_once =

@@ -19,6 +19,7 @@ use Rattle.ir_model.proofs.Stores.{place_of-is, IsStored, set_twice}
 use Rattle.ir_model.proofs.Lists.{put_comm, length-put}
 use Rattle.rf_order.specs.Swaps.{KeepsObjects, Touch, touch_of, AreApart, IsNamed, AreNamed, Acts, MayPass}
 use Rattle.rf_order.proofs.Lists.{get_other, set_comm, get_front, get_there, get_set_same, get_drop, put_other, Agree, lane_agrees, lanes_agree}
+use Rattle.rf_order.proofs.Tests.{true_false}
 
 -- ---- operations that only read
 
@@ -50,9 +51,6 @@ typed_load_is align (Int w) p m = narrow_effect w (option_map (λ bytes. LaneVal
 typed_load_is align (Row n w) p m = narrow_effect w (option_map (λ bytes. RowValue (lanes_from n (bytes_in w) bytes)) (loaded (n * bytes_in w) align p m)) m
 typed_load_is align Void p m = refl
 typed_load_is align Ptr p m = refl
-
-true_false : true ≡ false → ⊥
-true_false e = cc
 
 pub quiet_is : (op : Op) (t : Ty) (types : List Ty) (vs : List Value) (m : Memory) → changes op ≡ false → effect_of op t types vs m ≡ value_effect (reads op t types vs m) m
 quiet_is (Store align) t types vs m h = absurd (true_false h)

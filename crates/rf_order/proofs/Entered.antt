@@ -35,9 +35,7 @@ use Rattle.rf_order.specs.Ready.{has_kind, NamesOne, is_known}
 use Rattle.rf_order.specs.Blocks.{ArePhis, IsEntered, IsCut, CameFrom, run_phis, PhisAreEntered}
 use Rattle.rf_order.proofs.Shapes.{never_kinds}
 use Rattle.rf_order.proofs.Blocks.{get_middle, of_items, item, once_all, once, func, available}
-
-true_false : true ≡ false → ⊥
-true_false e = cc
+use Rattle.rf_order.proofs.Tests.{true_false}
 
 phi_no_alloca : (op : Op) → is_phi op ≡ true → is_alloca op ≡ false
 phi_no_alloca (Phi blocks) h = refl

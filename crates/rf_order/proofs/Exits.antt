@@ -32,21 +32,7 @@ use Rattle.rf_order.specs.Blocks.{IsEntered, IsCut, ExitsAreEntered}
 use Rattle.rf_order.proofs.Shapes.{never_kinds, step_ready}
 use Rattle.rf_order.proofs.Refined.{insts_append}
 use Rattle.rf_order.proofs.Blocks.{behind_defines, defines_append, get_middle, of_items, item, once_all, once, func, entry, Earlier, back, on_body, all_run, entered_ready, ends_none}
-
-true_false : true ≡ false → ⊥
-true_false e = cc
-
-or_case : (a b : Bool) → a || b ≡ true → (a ≡ true) ⊎ (b ≡ true)
-or_case true b h = inl refl
-or_case false b h = inr h
-
-or_first : (a b : Bool) → a ≡ true → (a || b) ≡ true
-or_first true b h = refl
-or_first false b h = absurd cc
-
-or_second : (a b : Bool) → b ≡ true → (a || b) ≡ true
-or_second true b h = refl
-or_second false b h = h
+use Rattle.rf_order.proofs.Tests.{or_case, or_first, or_second, true_false}
 
 -- ---- after instructions
 

@@ -1,5 +1,5 @@
 -- From block to block: a function with one block in the order of its window.
-use Rattle.std.proofs.Common.{◌≡◌, refl, sym, ap, ◌∙◌, subst, ℕ, zero, suc, ◌<◌, inl, inr, Bool, true, false, ◌&&◌, ◌||◌, cond, Option, None, Some, List, [], ◌∷◌, ◌++◌, length, nat_eq, slice_get, slice_set, arith}
+use Rattle.std.proofs.Common.{◌≡◌, refl, sym, ap, ◌∙◌, subst, ℕ, zero, suc, ◌<◌, inl, inr, Bool, true, false, ◌&&◌, cond, Option, None, Some, List, [], ◌∷◌, ◌++◌, length, nat_eq, slice_get, slice_set, arith}
 use Rattle.std.specs.List.{list_any, Contains}
 use Rattle.std.proofs.Math.Path.{fun_ext}
 use Rattle.std.proofs.lemmas.Bool.Decides.{nat_tests}
@@ -41,29 +41,15 @@ use Rattle.rf_order.proofs.Entered.{phis_entered}
 use Rattle.rf_order.proofs.Exits.{exits_entered}
 use Rattle.rf_order.proofs.Leading.{exits_lead}
 use Rattle.rf_order.proofs.Starts.{starts_entered}
-
-true_false : true ≡ false → ⊥
-true_false e = cc
-
-no_left : (a b : Bool) → a || b ≡ false → a ≡ false
-no_left false b h = refl
-no_left true b h = absurd cc
-
-no_right : (a b : Bool) → a || b ≡ false → b ≡ false
-no_right false b h = h
-no_right true b h = absurd cc
-
-neither : (a b : Bool) → a ≡ false → b ≡ false → (a || b) ≡ false
-neither false b h k = k
-neither true b h k = absurd cc
+use Rattle.rf_order.proofs.Tests.{neither, or_left, or_right, true_false}
 
 -- ---- types
 
 any_out : (z y : Id) (front rest : List Inst) (i : Inst) → i.id ≡ y → list_any (same_id z) (ids_of (front ++ i ∷ rest)) ≡ false → (same_id z y ≡ false) × (list_any (same_id z) (ids_of (front ++ rest)) ≡ false)
-any_out z y [] rest i e h = (ap (same_id z) (sym e) ∙ no_left (same_id z i.id) (list_any (same_id z) (ids_of rest)) h, no_right (same_id z i.id) (list_any (same_id z) (ids_of rest)) h)
+any_out z y [] rest i e h = (ap (same_id z) (sym e) ∙ or_left (same_id z i.id) (list_any (same_id z) (ids_of rest)) h, or_right (same_id z i.id) (list_any (same_id z) (ids_of rest)) h)
 any_out z y (j ∷ front) rest i e h =
-    let r = any_out z y front rest i e (no_right (same_id z j.id) (list_any (same_id z) (ids_of (front ++ i ∷ rest))) h) in
-    (r.0, neither (same_id z j.id) (list_any (same_id z) (ids_of (front ++ rest))) (no_left (same_id z j.id) (list_any (same_id z) (ids_of (front ++ i ∷ rest))) h) r.1)
+    let r = any_out z y front rest i e (or_right (same_id z j.id) (list_any (same_id z) (ids_of (front ++ i ∷ rest))) h) in
+    (r.0, neither (same_id z j.id) (list_any (same_id z) (ids_of (front ++ rest))) (or_left (same_id z j.id) (list_any (same_id z) (ids_of (front ++ i ∷ rest))) h) r.1)
 
 once_out : (front rest : List Inst) (y : Inst) → AreOnce (ids_of (front ++ y ∷ rest)) → (list_any (same_id y.id) (ids_of front) ≡ false) × AreOnce (ids_of (front ++ rest))
 once_out [] rest y h = (refl, h.1)
@@ -75,12 +61,12 @@ once_out (z ∷ front) rest y h =
 types_front : (front rest : List Inst) (y : Inst) (t : Id → Ty) (x : Id) → list_any (same_id y.id) (ids_of front) ≡ false → typed_insts (front ++ y ∷ rest) t x ≡ cond (same_id x y.id) y.ty (typed_insts (front ++ rest) t x)
 types_front [] rest y t x h = refl
 types_front (z ∷ front) rest y t x h =
-    ap (cond (same_id x z.id) z.ty) (types_front front rest y t x (no_right (same_id y.id z.id) (list_any (same_id y.id) (ids_of front)) h))
+    ap (cond (same_id x z.id) z.ty) (types_front front rest y t x (or_right (same_id y.id z.id) (list_any (same_id y.id) (ids_of front)) h))
     ∙ by_test (same_id x z.id) (same_id x y.id) refl refl
   where
     by_test : (a c : Bool) → same_id x z.id ≡ a → same_id x y.id ≡ c → cond a z.ty (cond c y.ty (typed_insts (front ++ rest) t x)) ≡ cond c y.ty (cond a z.ty (typed_insts (front ++ rest) t x))
     by_test true true ea ec =
-        absurd (true_false (sym (ap (λ v. same_id v z.id) (sym (same_is x y.id ec)) ∙ ea) ∙ no_left (same_id y.id z.id) (list_any (same_id y.id) (ids_of front)) h))
+        absurd (true_false (sym (ap (λ v. same_id v z.id) (sym (same_is x y.id ec)) ∙ ea) ∙ or_left (same_id y.id z.id) (list_any (same_id y.id) (ids_of front)) h))
     by_test true false ea ec = refl
     by_test false true ea ec = refl
     by_test false false ea ec = refl

@@ -1,4 +1,5 @@
 -- Why laws of reordering hold.
+pub mod Tests
 pub mod Lists
 pub mod Effects
 pub mod Swaps

@@ -5,9 +5,7 @@ use Rattle.vx_order.specs.Groups.{has}
 use Rattle.vx_order.specs.Walks.{Ascends}
 use Rattle.vx_order.proofs.Placing.{head_or_more, ascends_has}
 use Rattle.rf_order.specs.Rows.{NoneBefore, Reordered}
-
-pub true_false : true ≡ false → ⊥
-true_false e = cc
+use Rattle.rf_order.proofs.Tests.{neither, not_true, or_case, or_first, or_second, true_false}
 
 pub same_number : (x y : ℕ) → (x == y) ≡ true → x ≡ y
 same_number x y e = grind (arith, nat_tests)
@@ -27,31 +25,11 @@ has_append (z ∷ xs) ys x = ap (λ b. (z == x) || b) (has_append xs ys x) ∙ o
   or_assoc true b c = refl
   or_assoc false b c = refl
 
-pub or_cases : (a b : Bool) → (a || b) ≡ true → (a ≡ true) ⊎ (b ≡ true)
-or_cases true b h = inl refl
-or_cases false b h = inr h
-
-pub or_first : (a b : Bool) → a ≡ true → (a || b) ≡ true
-or_first true b h = refl
-or_first false b h = absurd cc
-
-pub or_second : (a b : Bool) → b ≡ true → (a || b) ≡ true
-or_second true b h = refl
-or_second false b h = h
-
-pub neither : (a b : Bool) → a ≡ false → b ≡ false → (a || b) ≡ false
-neither false b h k = k
-neither true b h k = absurd cc
-
 pub by_bool : (P : Bool → Type 0) → (b : Bool) → P true → P false → P b
 by_bool P true h k = h
 by_bool P false h k = k
 
 -- what is not false is true
-pub not_true : (b : Bool) → (b ≡ true → ⊥) → b ≡ false
-not_true true h = absurd (h refl)
-not_true false h = refl
-
 pub has_front : (xs ys : List ℕ) (x : ℕ) → has xs x ≡ true → has (xs ++ ys) x ≡ true
 has_front xs ys x h = has_append xs ys x ∙ or_first (has xs x) (has ys x) h
 
@@ -59,7 +37,7 @@ pub has_back : (xs ys : List ℕ) (x : ℕ) → has ys x ≡ true → has (xs ++
 has_back xs ys x h = has_append xs ys x ∙ or_second (has xs x) (has ys x) h
 
 pub has_part : (xs ys : List ℕ) (x : ℕ) → has (xs ++ ys) x ≡ true → (has xs x ≡ true) ⊎ (has ys x ≡ true)
-has_part xs ys x h = or_cases (has xs x) (has ys x) (sym (has_append xs ys x) ∙ h)
+has_part xs ys x h = or_case (has xs x) (has ys x) (sym (has_append xs ys x) ∙ h)
 
 pub has_none : (xs ys : List ℕ) (x : ℕ) → has xs x ≡ false → has ys x ≡ false → has (xs ++ ys) x ≡ false
 has_none xs ys x h k = has_append xs ys x ∙ neither (has xs x) (has ys x) h k
@@ -184,7 +162,7 @@ Topological depends done (y ∷ ys) = ((x : ℕ) → x < y → depends y x ≡ t
 pub topological_more : (depends : ℕ → ℕ → Bool) (few more : ℕ → Bool) (ys : List ℕ) → ((x : ℕ) → few x ≡ true → more x ≡ true) → Topological depends few ys → Topological depends more ys
 topological_more depends few more [] h t = tt
 topological_more depends few more (y ∷ ys) h t =
-    ((λ x less d. h x (t.0 x less d)), topological_more depends (also few y) (also more y) ys (λ x k. by_first x (or_cases (y == x) (few x) k)) t.1)
+    ((λ x less d. h x (t.0 x less d)), topological_more depends (also few y) (also more y) ys (λ x k. by_first x (or_case (y == x) (few x) k)) t.1)
   where
     by_first : (x : ℕ) → ((y == x) ≡ true) ⊎ (few x ≡ true) → also more y x ≡ true
     by_first x (inl e) = or_first (y == x) (more x) e

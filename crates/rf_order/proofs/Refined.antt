@@ -39,33 +39,7 @@ use Rattle.rf_order.proofs.Orders.{instead_then, reorder}
 use Rattle.rf_order.proofs.Shapes.{run_shapes, named_of, row, step_ready}
 use Rattle.rf_order.proofs.Apart.{keep_apart}
 use Rattle.rf_order.proofs.Windows.{orders_reordered}
-
-true_false : true ≡ false → ⊥
-true_false e = cc
-
-or_left : (a b : Bool) → a || b ≡ false → a ≡ false
-or_left false b h = refl
-or_left true b h = absurd cc
-
-or_right : (a b : Bool) → a || b ≡ false → b ≡ false
-or_right false b h = h
-or_right true b h = absurd cc
-
-or_first : (a b : Bool) → a ≡ true → (a || b) ≡ true
-or_first true b h = refl
-or_first false b h = absurd cc
-
-or_second : (a b : Bool) → b ≡ true → (a || b) ≡ true
-or_second true b h = refl
-or_second false b h = h
-
-neither : (a b : Bool) → a ≡ false → b ≡ false → (a || b) ≡ false
-neither false b h k = k
-neither true b h k = absurd cc
-
-not_true : (b : Bool) → (b ≡ true → ⊥) → b ≡ false
-not_true true h = absurd (h refl)
-not_true false h = refl
+use Rattle.rf_order.proofs.Tests.{neither, not_true, or_first, or_left, or_right, or_second, true_false}
 
 -- ---- what a dependence is
 

@@ -11,7 +11,8 @@ use Rattle.vx_order.proofs.Placing.{both, head_or_more, at_head, in_more}
 use Rattle.vx_order.proofs.Holding.{range_has}
 use Rattle.vx_serial.specs.Window.{joined}
 use Rattle.rf_order.specs.Rows.{Reordered}
-use Rattle.rf_order.proofs.Numbers.{true_false, same_number, number_itself, has_append, or_first, or_second, not_true, has_front, has_back, has_part, Distinct, distinct_left, distinct_right, distinct_apart, distinct_both, fits, fills, ascends_distinct, also, Topological, topological_more, reordered}
+use Rattle.rf_order.proofs.Numbers.{same_number, number_itself, has_append, has_front, has_back, has_part, Distinct, distinct_left, distinct_right, distinct_apart, distinct_both, fits, fills, ascends_distinct, also, Topological, topological_more, reordered}
+use Rattle.rf_order.proofs.Tests.{not_true, or_first, or_second, true_false}
 
 -- ---- places one after another
 

@@ -40,17 +40,7 @@ use Rattle.rf_order.specs.Steps.{uses}
 use Rattle.rf_order.specs.Ready.{Known, next, IsIn, IsStatement, MayRun, formula, has_formula, IsComputed, has_kind, NamesOne, NameOthers, is_known, RootsApart, IsReady, StepsKeepReady}
 use Rattle.rf_order.proofs.Effects.{read_is}
 use Rattle.rf_order.proofs.Swaps.{values_other}
-
-true_false : true ≡ false → ⊥
-true_false e = cc
-
-or_first : (a b : Bool) → a ≡ true → (a || b) ≡ true
-or_first true b h = refl
-or_first false b h = absurd cc
-
-or_second : (a b : Bool) → b ≡ true → (a || b) ≡ true
-or_second true b h = refl
-or_second false b h = h
+use Rattle.rf_order.proofs.Tests.{or_first, or_second, true_false}
 
 -- ---- operands
 

@@ -33,29 +33,7 @@ use Rattle.vx_view.proofs.Edits.{lacks_left}
 use Rattle.rf_order.specs.Ready.{has_kind, NamesOne, NameOthers, is_known, RootsApart}
 use Rattle.rf_order.specs.Blocks.{IsEntered, StartsAreEntered}
 use Rattle.rf_order.proofs.Shapes.{never_kinds}
-
-true_false : true ≡ false → ⊥
-true_false e = cc
-
-not_true : (b : Bool) → (b ≡ true → ⊥) → b ≡ false
-not_true true h = absurd (h refl)
-not_true false h = refl
-
-and_left : (a b : Bool) → a && b ≡ true → a ≡ true
-and_left true b h = refl
-and_left false b h = absurd cc
-
-and_right : (a b : Bool) → a && b ≡ true → b ≡ true
-and_right true b h = h
-and_right false b h = absurd cc
-
-or_left : (a b : Bool) → a || b ≡ false → a ≡ false
-or_left false b h = refl
-or_left true b h = absurd cc
-
-or_right : (a b : Bool) → a || b ≡ false → b ≡ false
-or_right false b h = h
-or_right true b h = absurd cc
+use Rattle.rf_order.proofs.Tests.{and_left, and_right, or_left, or_right, true_false}
 
 -- ---- parameters
 

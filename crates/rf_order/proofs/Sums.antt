@@ -44,9 +44,7 @@ use Rattle.rf_order.specs.Steps.{uses}
 use Rattle.rf_order.specs.Ready.{Known, IsIn, IsStatement, formula, has_formula, is_known, IsReady}
 use Rattle.rf_order.proofs.Shapes.{OpdsShape}
 use Rattle.rf_order.proofs.Addresses.{scaled, symbol_value, led_to, led_none, two_opds, lane_shape, find_id, KnownSymbol, known_opd, uses_here, uses_later, shapes_of, ran_for}
-
-true_false : true ≡ false → ⊥
-true_false e = cc
+use Rattle.rf_order.proofs.Tests.{and_left, and_right, true_false}
 
 -- ---- numbers
 
@@ -162,14 +160,6 @@ wide_is (Int w) h = let e : w ≡ 64 = grind (arith, nat_tests) in ap Int e
 wide_is Void h = absurd cc
 wide_is Ptr h = absurd cc
 wide_is (Row n w) h = absurd cc
-
-and_left : (a b : Bool) → a && b ≡ true → a ≡ true
-and_left true b h = refl
-and_left false b h = absurd cc
-
-and_right : (a b : Bool) → a && b ≡ true → b ≡ true
-and_right true b h = h
-and_right false b h = absurd cc
 
 -- ---- one sum
 

@@ -26,9 +26,7 @@ use Rattle.rf_order.specs.Swaps.{KeepsObjects, CallsKeepObjects, Touch, stored_s
 use Rattle.rf_order.specs.Steps.{uses, acts_in, AreFree, BothPlain, OverCall, CallOver, StepsSwap}
 use Rattle.rf_order.proofs.Lists.{get_front, set_front, get_within}
 use Rattle.rf_order.proofs.Effects.{changes, reads, quiet_is, read_is, reading, reading_first, reading_second, TouchSame, reads_kept, keeps_itself, stored_keeps, alloca_keeps, alloca_same, stored_same, stores_swap}
-
-true_false : true ≡ false → ⊥
-true_false e = cc
+use Rattle.rf_order.proofs.Tests.{or_left, or_right, true_false}
 
 -- ---- stores
 
@@ -334,14 +332,6 @@ effects_pass op other t u ts us vs ws m named also allocas apart = by_class (cla
   by_class (Makes elem a e) (Makes other_elem b d) = absurd (true_false (ap (λ o. is_alloca o && is_alloca (Alloca other_elem b)) (sym e) ∙ ap (λ o. is_alloca op && is_alloca o) (sym d) ∙ allocas))
 
 -- ---- two instructions
-
-or_left : (a b : Bool) → a || b ≡ false → a ≡ false
-or_left false b h = refl
-or_left true b h = absurd cc
-
-or_right : (a b : Bool) → a || b ≡ false → b ≡ false
-or_right false b h = h
-or_right true b h = absurd cc
 
 result_other : (env : Env) (id x : Id) (o : Option Value) → same_id x id ≡ false → set_result env id o x ≡ env x
 result_other env id x None e = refl

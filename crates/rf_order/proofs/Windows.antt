@@ -15,8 +15,9 @@ use Rattle.vx_view.specs.Conflicts.{depends}
 use Rattle.vx_serial.specs.Window.{is_member, place_of, singles, groups_in, edges_from, edges_in, with_inst, insts_at, joined}
 use Rattle.rf_order.specs.Rows.{NoneBefore, Reordered}
 use Rattle.rf_order.specs.Windows.{AreOnce, ids_of, AreBundles, OrdersReorder}
-use Rattle.rf_order.proofs.Numbers.{true_false, or_cases, or_first, or_second, not_true, has_front, has_back, has_part, Distinct, distinct_both, ascends_distinct}
+use Rattle.rf_order.proofs.Numbers.{has_front, has_back, has_part, Distinct, distinct_both, ascends_distinct}
 use Rattle.rf_order.proofs.Schedules.{place_is, group_of, Stands, flat_reordered}
+use Rattle.rf_order.proofs.Tests.{not_true, or_case, or_first, or_second, true_false}
 
 -- ---- the instructions of places
 
@@ -229,7 +230,7 @@ placed_by insts (x ∷ ids) p h = by_first (head_or_more (place_of insts x) p (m
 
 placed_there : (insts : List Inst) (ids : List Id) (x : Id) → list_any (same_id x) ids ≡ true → has (map (place_of insts) ids) (place_of insts x) ≡ true
 placed_there insts [] x h = absurd cc
-placed_there insts (y ∷ ids) x h = by_first (or_cases (same_id x y) (list_any (same_id x) ids) h) (λ k. placed_there insts ids x k) where
+placed_there insts (y ∷ ids) x h = by_first (or_case (same_id x y) (list_any (same_id x) ids) h) (λ k. placed_there insts ids x k) where
   by_first : (same_id x y ≡ true) ⊎ (list_any (same_id x) ids ≡ true) → (list_any (same_id x) ids ≡ true → has (map (place_of insts) ids) (place_of insts x) ≡ true) →
       has (map (place_of insts) (y ∷ ids)) (place_of insts x) ≡ true
   by_first (inl e) more = at_head (place_of insts y) (place_of insts x) (map (place_of insts) ids) (ap (place_of insts) (sym (same_is x y e)))
