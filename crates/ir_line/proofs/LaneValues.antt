@@ -7,12 +7,13 @@ use Rattle.ir_types.specs.declared.ty.Ty.{Ty}
 use Rattle.ir_types.specs.declared.ty.Ty.TheVariants.{Void, Int, Ptr, Row}
 use Rattle.ir_types.specs.Typed.{is_width, is_count, is_vector, is_number, is_value, IsLiteral}
 use Rattle.ir_line.specs.Words.{Words}
-use Rattle.ir_line.specs.Values.{width_of, number_of, fitting, negative, decimal_of, bits_number, lane_of}
+use Rattle.ir_line.specs.Values.{width_of, decimal_of, bits_number, lane_of}
 use Rattle.ir_line.specs.Reading.{is_row}
 use Rattle.ir_line.specs.Pieces.{SpellsTy, Integer, Pointer, Vector, SpellsLane, Lane, SpellsList, LastLane, MoreLanes, SpellsRow, Poison, Zero, Splat, Listed, SpellsLanes, Scalar, NoPointer, Lanes}
 use Rattle.std.proofs.lemmas.Nat.{pow_pos}
 use Rattle.std.proofs.lemmas.Bool.Decides.{nat_tests}
 use Rattle.std.proofs.lemmas.List.Elements.{All-nil, All-cons, All-replicate}
+use Rattle.vx_digits.specs.Numbers.{number_of, fitting, negative}
 use Rattle.ir_line.proofs.Steps.{nothing, clash, some_is, cond_then, bind_then, when_then, both_true}
 
 -- widths

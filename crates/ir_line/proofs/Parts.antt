@@ -1,5 +1,6 @@
 -- Types, literals, operands: what is read is spelled so, and what is spelled so is read.
 use Rattle.std.proofs.Common.{◌≡◌, ℕ, ◌≤◌, ◌<◌, Bool, true, false, List, [], ◌∷◌, Option, Some, None, length, replicate, refl, sym, ◌∙◌, ap, subst, arith, nat_eq, codes, bytes_eq, eqb-true, eq-eqb}
+use Rattle.vx_digits.specs.Numbers.{number_of, one_more}
 use Rattle.ir_types.specs.declared.ty.Ty.{Ty}
 use Rattle.ir_types.specs.declared.ty.Ty.TheVariants.{Void, Int, Ptr, Row}
 use Rattle.ir_line.specs.declared.kinds.Kind.{Kind}
@@ -7,7 +8,7 @@ use Rattle.ir_line.specs.declared.written.Written.{Written}
 use Rattle.ir_line.specs.declared.written.Written.TheVariants.{Local, Symbol}
 use Rattle.ir_line.specs.declared.written.Arg.{Arg}
 use Rattle.ir_line.specs.Kinds.{fits, is_pointer}
-use Rattle.ir_line.specs.Values.{width_of, number_of, one_more, decimal_of, bits_number, lane_of, local_of, symbol_of}
+use Rattle.ir_line.specs.Values.{width_of, decimal_of, bits_number, lane_of, local_of, symbol_of}
 use Rattle.ir_line.specs.Words.{Words, one, expect, is_first, behind}
 use Rattle.ir_line.specs.Reading.{is_row, row_at, int_at, ty_at, kind_at, typed_lane, lanes_within, listed_at, splat_at, row_lanes, lanes_at, literal_at, symbol_at, unnamed_at, operand_at, typed_at}
 use Rattle.ir_line.specs.Pieces as pieces

@@ -1,5 +1,6 @@
 -- Aligns, elements, masks, blocks, pairs, and so every part: what is read is spelled so, and what is spelled so is read.
 use Rattle.std.proofs.Common.{◌≡◌, ℕ, ◌+◌, ◌*◌, ◌≤◌, ◌<◌, List, [], ◌∷◌, Option, Some, length, refl, sym, ◌∙◌, ap, subst, arith, codes, eqb-true}
+use Rattle.vx_digits.specs.Optional.{when}
 use Rattle.ir_types.specs.declared.ty.Ty.{Ty}
 use Rattle.ir_types.specs.declared.ty.Ty.TheVariants.{Void, Int, Ptr, Row}
 use Rattle.ir_types.specs.declared.ty.Elem.{Elem}
@@ -10,7 +11,7 @@ use Rattle.ir_line.specs.declared.written.Written.{Written}
 use Rattle.ir_line.specs.declared.pairs.Incoming.{Incoming}
 use Rattle.ir_line.specs.Kinds.{bits_of, lanes_of}
 use Rattle.ir_line.specs.Values.{width_of, align_of, local_of, label_of}
-use Rattle.ir_line.specs.Words.{Words, when, one, expect, is_first, behind}
+use Rattle.ir_line.specs.Words.{Words, one, expect, is_first, behind}
 use Rattle.ir_line.specs.Reading.{is_row, are_entries, length_of, item_of, kind_at, lanes_at, operand_at, given_at, aligned_at, array_at, elem_at, masked_by, mask_at, target_at, also_target_at, labelled_at, other_at, also_at, put, pair_at, pairs_within, pairs_at}
 use Rattle.ir_line.specs.Pieces as pieces
 use Rattle.ir_line.specs.Pieces.{Says, Led, SpellsTy, SpellsKind, SpellsLanes, SpellsOperand, SpellsTyped, SpellsAligned, SpellsElem, SpellsMask, SpellsPair, SpellsPairs}

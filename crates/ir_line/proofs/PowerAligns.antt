@@ -4,9 +4,10 @@ use Rattle.std.specs.Prelude.{nat_le}
 use Rattle.std.specs.Int.{is_power_of_two}
 use Rattle.std.specs.Int.Count.{ones, ones_in}
 use Rattle.std.proofs.lemmas.Bool.Decides.{nat_tests}
+use Rattle.vx_digits.specs.Numbers.{number_of}
+use Rattle.vx_digits.specs.Optional.{when}
 use Rattle.ir_types.specs.Typed.{IsAlign}
-use Rattle.ir_line.specs.Values.{number_of, align_of, is_align}
-use Rattle.ir_line.specs.Words.{when}
+use Rattle.ir_line.specs.Values.{align_of, is_align}
 use Rattle.ir_line.proofs.Steps.{bind_then, when_then, both_true}
 
 no_ones : (d m : ℕ) → m < 2 ^ d → ones_in d m ≡ 0 → m ≡ 0

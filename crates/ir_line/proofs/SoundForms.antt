@@ -4,6 +4,8 @@ use Rattle.std.specs.Prelude.{nat_eq, nat_lt, nat_le, unwrap_or}
 use Rattle.std.specs.List.{All, list_all}
 use Rattle.std.proofs.lemmas.Bool.Decides.{nat_tests}
 use Rattle.std.proofs.lemmas.List.Elements.{All-nil, All-cons, All-append}
+use Rattle.vx_digits.specs.Numbers.{number_of}
+use Rattle.vx_digits.specs.Optional.{when}
 use Rattle.vx_num.specs.declared.operations.BinOp.{BinOp}
 use Rattle.vx_num.specs.declared.operations.BinOp.TheVariants.{Add, Sub, Mul, Shl, Udiv, Sdiv, Urem, Srem, Lshr, Ashr, And, Or as OrOp, Xor}
 use Rattle.vx_num.specs.declared.operations.CastOp.{CastOp}
@@ -20,8 +22,8 @@ use Rattle.ir_line.specs.declared.written.Written.{Written}
 use Rattle.ir_line.specs.declared.written.Arg.{Arg}
 use Rattle.ir_line.specs.declared.pairs.Incoming.{Incoming}
 use Rattle.ir_line.specs.Kinds.{fits, bits_of, is_cast}
-use Rattle.ir_line.specs.Words.{Words, when}
-use Rattle.ir_line.specs.Values.{number_of, width_of}
+use Rattle.ir_line.specs.Words.{Words}
+use Rattle.ir_line.specs.Values.{width_of}
 use Rattle.ir_line.specs.Reading.{has, allows, length_of, item_of, is_entry, are_entries, is_row, both}
 use Rattle.ir_line.specs.Pieces.{Led, SpellsKind, SpellsTyped, SpellsOperand, Named, Global, Literal, SpellsAligned, Absent, Given, SpellsElem, Single, Items, SpellsMask, Entries, SpellsPair, Pair, SpellsPairs, LastPair, MorePairs}
 use Rattle.ir_line.specs.Forms.{arg, flags_of, truth_of, bin_flags, cast_flags, cast_kind}

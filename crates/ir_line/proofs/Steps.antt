@@ -1,7 +1,8 @@
 -- What a reading that succeeded says of its steps, and how words are told apart.
 use Rattle.std.proofs.Common.{◌≡◌, ℕ, Bool, true, false, cond, not, ◌&&◌, List, [], ◌∷◌, Option, Some, None, refl, sym, ◌∙◌, ap, subst, bytes_eq}
 use Rattle.std.proofs.lemmas.Slice.Eq.{bytes_eq-Decides}
-use Rattle.ir_line.specs.Words.{Words, ◌>>=◌, when, one, expect, is_first, behind, by_word}
+use Rattle.vx_digits.specs.Optional.{◌>>=◌, when}
+use Rattle.ir_line.specs.Words.{Words, one, expect, is_first, behind, by_word}
 use Rattle.ir_line.specs.Reading.{choose}
 use Rattle.ir_line.specs.Pieces.{Says}
 

@@ -1,6 +1,8 @@
 -- Calls: what stands where in `%x = TAIL call PRE TYPE @f(ARGS) POST`, and what is kept of it.
 -- LLVM Language Reference, "'call' Instruction".
 use Rattle.std.specs.Prelude.{◌≡◌, refl, ℕ, suc, ◌+◌, ◌-◌, Bool, not, ◌&&◌, ◌||◌, cond, Option, Some, None, List, [], ◌∷◌, ◌++◌, codes, bytes_eq, nat_eq, length, take, drop}
+use Rattle.vx_digits.specs.Numbers.{number_of, one_more, fitting}
+use Rattle.vx_digits.specs.Optional.{◌>>=◌, when}
 use Rattle.ir_lex.specs.Bytes.{begins_name, is_word_byte, is_digit, is_sigil, is_mark, is_blank}
 use Rattle.ir_lex.specs.Scan.{string_len, name_len, more_len, cut}
 use Rattle.ir_lex.specs.declared.list.Token.{Token}
@@ -14,8 +16,8 @@ use Rattle.ir_line.specs.declared.written.Arg.{Arg}
 use Rattle.ir_line.specs.declared.calls.Arguments.{Arguments}
 use Rattle.ir_line.specs.declared.line.Line.{Line}
 use Rattle.ir_line.specs.declared.line.Line.TheVariants as lines
-use Rattle.ir_line.specs.Values.{width_of, number_of, one_more, fitting, decimal_of, bits_number, lane_of, local_of, named, symbol_of}
-use Rattle.ir_line.specs.Words.{Words, ◌>>=◌, when, one, is_first}
+use Rattle.ir_line.specs.Values.{width_of, decimal_of, bits_number, lane_of, local_of, named, symbol_of}
+use Rattle.ir_line.specs.Words.{Words, one, is_first}
 use Rattle.ir_line.specs.Reading.{has, choose, ty_at, lanes_at, literal_at, symbol_at, unnamed_at, operand_at}
 use Rattle.ir_line.specs.Keeping.{is_some}
 use Rattle.ir_line.specs.Headers.{span, depth_after, attrs_len, is_banned, ty_len, ret_of}

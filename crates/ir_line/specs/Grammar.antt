@@ -1,7 +1,8 @@
 -- Forms as trees of parts: what is read first, and how it goes on by what was read.
 use Rattle.std.specs.Prelude.{Option, Some, None, [], ◌∷◌}
+use Rattle.vx_digits.specs.Optional.{◌>>=◌ as ◌>>>=◌}
 use Rattle.ir_line.specs.Values.{local_of, opcode_of, act_of, pred_of}
-use Rattle.ir_line.specs.Words.{Words, ◌>>=◌ as ◌>>>=◌, one, expect}
+use Rattle.ir_line.specs.Words.{Words, one, expect}
 use Rattle.ir_line.specs.Reading.{flags_at, kind_at, operand_at, other_at, typed_at, also_at, aligned_at, elem_at, mask_at, target_at, also_target_at, labelled_at, case_at, pairs_at, choose}
 use Rattle.ir_line.specs.Pieces.{Piece, Value, Word, Name, Labelled, Code, ActCode, Comparison, Flags, OfKind, Bare, Other, Typed, Also, Aligned, Element, Mask, Target, AlsoTarget, Case, Pairs}
 

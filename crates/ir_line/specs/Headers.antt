@@ -3,6 +3,7 @@
 use Rattle.std.specs.Prelude.{ℕ, suc, ◌+◌, ◌-◌, Bool, false, not, ◌&&◌, ◌||◌, cond, Option, Some, None, option_map, List, [], ◌∷◌, ◌++◌, codes, bytes_eq, nat_eq, length, take, drop}
 use Rattle.std.specs.List.{list_all}
 use Rattle.std.specs.Char.{is_ascii_alphabetic}
+use Rattle.vx_digits.specs.Optional.{◌>>=◌}
 use Rattle.ir_lex.specs.Bytes.{quote}
 use Rattle.ir_lex.specs.declared.list.Token.{Token}
 use Rattle.ir_lex.specs.Words.{word, words}
@@ -11,7 +12,7 @@ use Rattle.ir_types.specs.declared.ty.Ty.TheVariants.{Void, Row}
 use Rattle.ir_types.specs.declared.func.Param.{Param}
 use Rattle.ir_line.specs.declared.head.Head.{Head}
 use Rattle.ir_line.specs.Values.{local_of, symbol_of}
-use Rattle.ir_line.specs.Words.{Words, ◌>>=◌, one, is_first, is_ascii}
+use Rattle.ir_line.specs.Words.{Words, one, is_first, is_ascii}
 use Rattle.ir_line.specs.Reading.{ty_at}
 use Rattle.ir_line.specs.Keeping.{is_digits, is_some}
 

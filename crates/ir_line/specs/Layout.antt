@@ -2,8 +2,8 @@
 -- LLVM Language Reference, "Data Layout".
 use Rattle.std.specs.Prelude.{◌≡◌, refl, ℕ, Bool, true, false, not, ◌&&◌, ◌||◌, cond, Option, Some, None, List, [], ◌∷◌, codes, take, nat_eq}
 use Rattle.std.specs.List.{prefix_len}
+use Rattle.vx_digits.specs.Numbers.{number_of, one_more}
 use Rattle.ir_lex.specs.Bytes.{quote}
-use Rattle.ir_line.specs.Values.{number_of, one_more}
 use Rattle.ir_line.specs.Words.{Words}
 
 -- whether a part of the string ends here: at `-`, and at the closing quote

@@ -2,6 +2,8 @@
 -- That these readers give exactly what `Pieces` calls a spelling of the part is proved beside them.
 use Rattle.std.specs.Prelude.{ℕ, suc, zero, ◌+◌, ◌*◌, ◌^◌, Bool, true, false, not, ◌&&◌, ◌||◌, cond, Option, Some, None, List, [], ◌∷◌, ◌++◌, bytes_eq, nat_eq, nat_lt, nat_le, codes, length, replicate}
 use Rattle.std.specs.List.{list_all}
+use Rattle.vx_digits.specs.Numbers.{number_of}
+use Rattle.vx_digits.specs.Optional.{◌>>=◌, when}
 use Rattle.ir_types.specs.declared.ty.Ty.{Ty}
 use Rattle.ir_types.specs.declared.ty.Ty.TheVariants.{Void, Int, Ptr, Row}
 use Rattle.ir_types.specs.declared.ty.Elem.{Elem}
@@ -15,8 +17,8 @@ use Rattle.ir_line.specs.declared.written.Written.TheVariants.{Local, Symbol, Li
 use Rattle.ir_line.specs.declared.written.Arg.{Arg}
 use Rattle.ir_line.specs.declared.pairs.Incoming.{Incoming}
 use Rattle.ir_line.specs.Kinds.{fits, is_pointer, bits_of, lanes_of}
-use Rattle.ir_line.specs.Values.{width_of, number_of, align_of, bits_number, lane_of, local_of, symbol_of, label_of}
-use Rattle.ir_line.specs.Words.{Words, ◌>>=◌, when, one, expect, is_first, behind}
+use Rattle.ir_line.specs.Values.{width_of, align_of, bits_number, lane_of, local_of, symbol_of, label_of}
+use Rattle.ir_line.specs.Words.{Words, one, expect, is_first, behind}
 
 -- flags
 

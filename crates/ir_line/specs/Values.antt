@@ -3,6 +3,8 @@ use Rattle.std.specs.Prelude.{◌≡◌, refl, ℕ, ◌+◌, ◌-◌, ◌*◌, �
 use Rattle.std.specs.Char.{is_ascii_digit}
 use Rattle.std.specs.Int.{is_power_of_two}
 use Rattle.std.specs.List.{list_all}
+use Rattle.vx_digits.specs.Numbers.{number_of, one_more, fitting, negative}
+use Rattle.vx_digits.specs.Optional.{◌>>=◌, when}
 use Rattle.ir_lex.specs.Bytes.{quote, begins_name}
 use Rattle.vx_num.specs.declared.operations.BinOp.{BinOp}
 use Rattle.vx_num.specs.declared.operations.BinOp.TheVariants.{Add, Sub, Mul, Shl, Udiv, Sdiv, Urem, Srem, Lshr, Ashr, And, Or, Xor}
@@ -14,7 +16,7 @@ use Rattle.ir_line.specs.declared.opcode.Opcode.{Opcode}
 use Rattle.ir_line.specs.declared.opcode.Opcode.TheVariants.{Bin, Cast, Icmp, Select, Extract, Insert, Shuffle, Gep, Load, Alloca, Phi}
 use Rattle.ir_line.specs.declared.opcode.Act.{Act}
 use Rattle.ir_line.specs.declared.opcode.Act.TheVariants.{Store, Ret, Br, Switch, Unreachable}
-use Rattle.ir_line.specs.Words.{◌>>=◌, when, by_word}
+use Rattle.ir_line.specs.Words.{by_word}
 
 -- the bits of an integer type
 unfoldable pub width_of : List ℕ → Option ℕ
@@ -25,34 +27,12 @@ width_of t =
     (cond (bytes_eq t (codes "i32")) (Some 32)
     (cond (bytes_eq t (codes "i64")) (Some 64) None))))
 
--- n with one more digit behind it, where that is below 2^64
-unfoldable pub one_more : ℕ → ℕ → Option ℕ
-one_more n d = cond (is_ascii_digit d) (when (nat_lt (n * 10 + (d - 48)) (2 ^ 64)) (n * 10 + (d - 48))) None
-
--- the number whose decimal digits, behind others of the value n, these are
-abbrev pub number_from : ℕ → List ℕ → Option ℕ
-number_from n [] = Some n
-number_from n (d ∷ ds) = one_more n d >>= (λ m. number_from m ds)
-
--- a number by its value, with leading zeros or without
-unfoldable pub number_of : List ℕ → Option ℕ
-number_of [] = None
-number_of (d ∷ ds) = number_from 0 (d ∷ ds)
-
 -- a power of two from 1 to 2^32
 abbrev pub is_align : ℕ → Bool
 is_align n = is_power_of_two n && nat_le n (2 ^ 32)
 
 unfoldable pub align_of : List ℕ → Option ℕ
 align_of t = number_of t >>= (λ n. when (is_align n) n)
-
--- n of w bits, where it is below 2^w
-unfoldable pub fitting : ℕ → ℕ → Option ℕ
-fitting w n = cond (nat_lt 64 w) None (when (nat_lt n (2 ^ w)) n)
-
--- -n of w bits, where it is at least -2^(w - 1)
-unfoldable pub negative : ℕ → ℕ → Option ℕ
-negative w n = cond (nat_lt 64 w) None (cond (nat_eq n 0) (Some 0) (when (nat_le (2 * n) (2 ^ w)) (2 ^ w - n)))
 
 -- a signed decimal of w bits
 unfoldable pub decimal_of : ℕ → List ℕ → Option ℕ

@@ -1,5 +1,6 @@
 -- The words of a line, and the small tools of reading them from the front.
 use Rattle.std.specs.Prelude.{◌≡◌, ℕ, Bool, true, false, cond, Option, Some, None, Result, Ok, Err, option_and_then, List, [], ◌∷◌, bytes_eq, nat_lt}
+use Rattle.vx_digits.specs.Optional.{◌>>=◌, when}
 use Rattle.ir_line.specs.declared.refusal.Stop.{Stop}
 use Rattle.ir_line.specs.declared.refusal.Stop.TheVariants.{NotALine, OutOfMemory}
 
@@ -11,15 +12,6 @@ Words = List (List ℕ)
 abbrev pub is_ascii : List ℕ → Bool
 is_ascii [] = true
 is_ascii (b ∷ bs) = nat_lt b 128
-
-infixl 10 ◌>>=◌
-abbrev pub ◌>>=◌ : {A B : Type 0} → Option A → (A → Option B) → Option B
-o >>= f = option_and_then f o
-
--- the value, where the test holds
-abbrev pub when : {A : Type 0} → Bool → A → Option A
-when true a = Some a
-when false a = None
 
 -- the first word and what follows
 abbrev pub next : Words → Option (List ℕ × Words)

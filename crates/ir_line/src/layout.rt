@@ -7,7 +7,7 @@ ghost use Rattle.std.specs.List.{prefix_len};
 ghost use Rattle.ir_lex.specs.Words.{words};
 ghost use Rattle.ir_line.specs.Layout as layout;
 
-use crate::values::number;
+use vx_digits::number;
 use ir_lex::{Token, text};
 
 /// Whether a part of the string ends here.

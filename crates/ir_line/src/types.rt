@@ -3,8 +3,10 @@
 //! Each reader stops where no such type stands there.
 
 ghost use Rattle.std.specs.Prelude.{◌≡◌};
+ghost use Rattle.vx_digits.specs.Numbers as numbers;
+ghost use Rattle.vx_digits.specs.Optional.{when};
 ghost use Rattle.ir_lex.specs.Words.{words};
-ghost use Rattle.ir_line.specs.Words.{Gives, one, when};
+ghost use Rattle.ir_line.specs.Words.{Gives, one};
 ghost use Rattle.ir_types.specs.declared.ty.Ty.TheVariants.{Row};
 ghost use Rattle.ir_line.specs.Values as values;
 ghost use Rattle.ir_line.specs.Reading as reading;
@@ -26,7 +28,7 @@ pub(crate) fn width<'a>(line: &'a [u8], tokens: &'a [Token]) -> Result<(u8, &'a 
 
 /// A number.
 fn number<'a>(line: &'a [u8], tokens: &'a [Token]) -> Result<(u64, &'a [Token]), Stop>
-    ensures { Gives (λ x. (x.0, words line.now x.1.now)) result (one values.number_of (words line.now tokens.now)) }
+    ensures { Gives (λ x. (x.0, words line.now x.1.now)) result (one numbers.number_of (words line.now tokens.now)) }
 {
     let (word, rest) = next(line, tokens)?;
     Ok((number_of(word)?, rest))

@@ -5,15 +5,17 @@
 ghost use Rattle.std.specs.Prelude.{◌≡◌, ◌*◌, ◌-◌, ◌^◌, ◌<◌, ◌≤◌, IfOk, nat_le};
 ghost use Rattle.std.specs.Char.{is_ascii_digit};
 ghost use Rattle.std.specs.List.{list_all};
+ghost use Rattle.vx_digits.specs.Numbers as numbers;
 ghost use Rattle.ir_lex.specs.Bytes.{begins_name};
 ghost use Rattle.ir_line.specs.Keeping.{is_some};
-ghost use Rattle.ir_line.specs.Words.{Gives, when};
+ghost use Rattle.ir_line.specs.Words.{Gives};
 ghost use Rattle.ir_line.specs.Values as values;
 
 use crate::refusal::Stop;
 use crate::words::is;
 use ir_types::Bytes;
 use std::alloc::{AllocError, Global};
+use vx_digits::{fitting, negative, number};
 use vx_num::Lane;
 
 /// The bits of an integer type.
@@ -39,51 +41,11 @@ pub(crate) fn width_of(word: &[u8]) -> Result<u8, Stop>
     Err(Stop::NotALine)
 }
 
-/// A number by its value, below 2^64, if a word is one.
-#[tactic(auto, unfolding(crate::specs::Values::number_of))]
-pub(crate) fn number(word: &[u8]) -> Option<u64>
-    ensures { result ≡ values.number_of word.now }
-{
-    match word {
-        [] => None,
-        _ => number_from(word),
-    }
-}
-
 /// A number by its value, below 2^64.
 pub(crate) fn number_of(word: &[u8]) -> Result<u64, Stop>
-    ensures { Gives (λ x. x) result (values.number_of word.now) }
+    ensures { Gives (λ x. x) result (numbers.number_of word.now) }
 {
     number(word).ok_or(Stop::NotALine)
-}
-
-/// The number of these digits.
-fn number_from(word: &[u8]) -> Option<u64>
-    ensures { result ≡ values.number_from 0 word.now }
-{
-    let mut n: u64 = 0;
-    let mut rest = word;
-    'each: while let [digit, after @ ..] = rest {
-        n = one_more(n, *digit)?;
-        rest = after;
-    }
-    Some(n)
-}
-
-/// The number with one more digit.
-#[tactic(auto, unfolding(crate::specs::Values::one_more))]
-fn one_more(n: u64, digit: u8) -> Option<u64>
-    ensures { result ≡ values.one_more n digit }
-{
-    if !digit.is_ascii_digit() {
-        return None;
-    }
-    let more = u128::from(n) * 10 + u128::from(digit - b'0');
-    if more < 1 << 64 {
-        Some(more as u64)
-    } else {
-        None
-    }
 }
 
 /// An align: a power of two from 1 to 2^32.
@@ -99,48 +61,6 @@ pub(crate) fn align_of(word: &[u8]) -> Result<u64, Stop>
     }
 }
 
-/// A number, where it has `w` bits.
-#[tactic(auto, unfolding(crate::specs::Values::fitting))]
-fn fitting(w: u8, n: u64) -> Result<u64, Stop>
-    ensures { Gives (λ x. x) result (values.fitting w n) }
-{
-    if w > 64 {
-        return Err(Stop::NotALine);
-    }
-    if u128::from(n) < 1u128 << w {
-        Ok(n)
-    } else {
-        Err(Stop::NotALine)
-    }
-}
-
-/// A number with a minus, in two's complement of `w` bits, where it is not below the least.
-#[tactic(auto, unfolding(crate::specs::Values::negative))]
-fn negative(w: u8, n: u64) -> Result<u64, Stop>
-    ensures { Gives (λ x. x) result (values.negative w n) }
-{
-    if w > 64 {
-        return Err(Stop::NotALine);
-    }
-    if n == 0 {
-        return Ok(0);
-    }
-    below(1u128 << w, n)
-}
-
-/// How far `n` is below `all`, where it is at most half of that.
-fn below(all: u128, n: u64) -> Result<u64, Stop>
-    requires wide { all ≤ 2 ^ 64 }
-    requires some { 0 < n }
-    ensures { Gives (λ x. x) result (when (nat_le (2 * n) all) (all - n)) }
-{
-    if 2 * u128::from(n) <= all {
-        Ok((all - u128::from(n)) as u64)
-    } else {
-        Err(Stop::NotALine)
-    }
-}
-
 /// A signed decimal of `w` bits.
 #[tactic(auto, unfolding(crate::specs::Values::decimal_of))]
 fn decimal_of(w: u8, word: &[u8]) -> Result<u64, Stop>
@@ -148,8 +68,8 @@ fn decimal_of(w: u8, word: &[u8]) -> Result<u64, Stop>
 {
     match word {
         [] => Err(Stop::NotALine),
-        [b'-', digits @ ..] => negative(w, number_of(digits)?),
-        _ => fitting(w, number_of(word)?),
+        [b'-', digits @ ..] => negative(w, number_of(digits)?).ok_or(Stop::NotALine),
+        _ => fitting(w, number_of(word)?).ok_or(Stop::NotALine),
     }
 }
 

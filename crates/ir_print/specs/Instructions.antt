@@ -2,6 +2,7 @@
 -- A form whose operands are missing is printed without them. The Language Reference has the forms under "Instruction Reference".
 use Rattle.std.specs.Prelude.{ℕ, Bool, true, false, Option, Some, None, List, [], ◌∷◌, ◌++◌, codes, length, slice_get}
 use Rattle.std.specs.Fmt.{decimal}
+use Rattle.vx_digits.specs.Lanes.{lane_text}
 use Rattle.vx_num.specs.declared.operations.BinOp.{BinOp}
 use Rattle.vx_num.specs.declared.operations.BinOp.TheVariants.{Add, Sub, Mul, Shl, Udiv, Sdiv, Urem, Srem, Lshr, Ashr, And, Or, Xor}
 use Rattle.vx_num.specs.declared.operations.Pred.{Pred}
@@ -16,7 +17,7 @@ use Rattle.ir_types.specs.declared.opd.Opd.{Opd}
 use Rattle.ir_types.specs.declared.op.Op.{Op}
 use Rattle.ir_types.specs.declared.op.Op.TheVariants.{Bin, Icmp, Cast, Select, Extract, Insert, Shuffle, Gep, Load, Store, Alloca, Phi, Ret, Br, CondBr, Switch, Unreachable, Call}
 use Rattle.ir_types.specs.declared.inst.Inst.{Inst}
-use Rattle.ir_print.specs.Literals.{ty_text, elem_text, lane_text, vector_text}
+use Rattle.ir_print.specs.Literals.{ty_text, elem_text, vector_text}
 use Rattle.ir_print.specs.Names.{Names, local_of, is_store, is_void}
 use Rattle.ir_print.specs.Operands.{spaced, local_text, bare_at, typed_at, ty_at, opd_text, opd_ty, typed_text, block_text, label_text}
 

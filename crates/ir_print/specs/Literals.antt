@@ -3,6 +3,7 @@
 use Rattle.std.specs.Prelude.{◌≡◌, refl, ℕ, ◌-◌, ◌^◌, Bool, true, false, not, ◌&&◌, Option, Some, None, List, [], ◌∷◌, ◌++◌, codes, nat_eq, nat_lt, nat_le, if◌then◌else◌, slice_get}
 use Rattle.std.specs.List.{list_all}
 use Rattle.std.specs.Fmt.{decimal, digits}
+use Rattle.vx_digits.specs.Lanes.{lane_text}
 use Rattle.ir_types.specs.declared.ty.Ty.{Ty}
 use Rattle.ir_types.specs.declared.ty.Ty.TheVariants.{Void, Int, Ptr, Row}
 use Rattle.ir_types.specs.declared.ty.Elem.{Elem}
@@ -20,18 +21,6 @@ ty_text (Row n w) = codes "<" ++ (decimal n ++ (codes " x i" ++ (decimal w ++ co
 abbrev pub elem_text : Elem → List ℕ
 elem_text (One t) = ty_text t
 elem_text (Array n w) = codes "[" ++ (decimal n ++ (codes " x i" ++ (decimal w ++ codes "]")))
-
--- the number n of w bits, read as signed; of one bit, as a truth value
-abbrev pub number_text : ℕ → ℕ → List ℕ
-number_text w n =
-    if nat_eq w 1 then (if nat_eq n 0 then codes "false" else codes "true")
-    else if nat_lt n (2 ^ (w - 1)) then decimal n
-    else codes "-" ++ decimal (2 ^ w - n)
-
--- a lane of w bits
-abbrev pub lane_text : ℕ → Option ℕ → List ℕ
-lane_text w None = codes "poison"
-lane_text w (Some n) = number_text w n
 
 abbrev pub is_poison : Option ℕ → Bool
 is_poison None = true

@@ -7,12 +7,13 @@ ghost use Rattle.ir_print.specs.Instructions as instructions;
 ghost use Rattle.ir_print.specs.Operands.{label_text};
 
 use crate::names::Names;
-use crate::number::{push_decimal, push_lane, push_ty};
+use crate::number::push_ty;
 use crate::operand::{
     push_bare_at, push_block, push_label, push_opd, push_spaced, push_typed, push_typed_at, ty_of,
 };
 use ir_types::{Bytes, Opd, Ty};
 use std::alloc::AllocError;
+use vx_digits::{push_decimal, push_lane};
 use vx_num::Lane;
 
 fn push_pair(

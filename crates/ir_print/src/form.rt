@@ -6,9 +6,9 @@
 ghost use Rattle.std.specs.Prelude.{◌≡◌, ◌++◌, OnOk};
 ghost use Rattle.std.specs.Fmt.{decimal};
 
-use crate::number::push_decimal;
 use std::alloc::AllocError;
 use std::marker::Model;
+use vx_digits::push_decimal;
 
 /// How a value or a block is shown.
 #[derive(Drop)]

@@ -6,11 +6,12 @@ ghost use Rattle.std.specs.Prelude.{◌≡◌, ◌++◌, OnOk, codes};
 ghost use Rattle.ir_print.specs.Instructions as instructions;
 
 use crate::names::Names;
-use crate::number::{push_decimal, push_elem, push_ty};
+use crate::number::{push_elem, push_ty};
 use crate::operand::{push_bare_at, push_typed};
 use crate::value_ops::push_flag;
 use ir_types::{Bytes, Elem, Opd, Ty};
 use std::alloc::AllocError;
+use vx_digits::push_decimal;
 
 fn push_operands(
     out: &mut Vec<u8>,

@@ -6,10 +6,11 @@ ghost use Rattle.std.specs.Prelude.{◌≡◌, ◌++◌, OnOk, codes, true};
 ghost use Rattle.ir_print.specs.Instructions as instructions;
 
 use crate::names::Names;
-use crate::number::{push_decimal, push_ty, push_vector};
+use crate::number::{push_ty, push_vector};
 use crate::operand::{push_bare_at, push_ty_at, push_typed_at};
 use ir_types::{Bytes, Opd, Ty};
 use std::alloc::AllocError;
+use vx_digits::push_decimal;
 use vx_num::{BinOp, CastOp, Flags, Lane, Pred};
 
 fn bin_word(op: BinOp) -> &'static [u8]

@@ -1,6 +1,7 @@
 -- What decides whether later lines are outside the profile: the blocks that have begun and what is open, and no numbers. A line that
 -- stands where it may leaves these as it does where nothing is asked of it.
 use Rattle.std.proofs.Common.{◌≡◌, ℕ, ◌+◌, Bool, true, false, cond, not, ◌||◌, List, [], ◌∷◌, Option, Some, None, Result, Ok, Err, refl, sym, ◌∙◌, ap}
+use Rattle.vx_digits.specs.Numbers.{number_of}
 use Rattle.ir_types.specs.declared.op.Op.{Op}
 use Rattle.ir_types.specs.declared.op.Op.TheVariants as ops
 use Rattle.ir_types.specs.declared.func.Param.{Param}
@@ -14,7 +15,6 @@ use Rattle.ir_read.specs.declared.refusal.ReadRefusal.{ReadRefusal}
 use Rattle.ir_read.specs.declared.refusal.ReadRefusal.TheVariants.{NotALine, Misplaced}
 use Rattle.ir_read.specs.Answers.{◌>>=◌}
 use Rattle.ir_read.specs.Numbers.{is_unnamed, is_next, after_name, after_result, after_param, after_params}
-use Rattle.ir_line.specs.Values.{number_of}
 use Rattle.ir_read.specs.Position.{is_cases, may_stand, spot_after, opened, in_first, after_label, after_stmt, after_case, after_cases}
 use Rattle.ir_read.specs.Function.{any_barred, is_foreign, is_outside, after_inst}
 use Rattle.ir_read.specs.Opaque.{passed_label, passed_stmt, passed_end, passed_over, is_foreign_line, any_foreign}

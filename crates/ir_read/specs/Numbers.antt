@@ -1,7 +1,7 @@
 -- The numbers of what has no name: one counter in a function numbers unnamed parameters, blocks and results in order of text.
 use Rattle.std.specs.Prelude.{ℕ, ◌+◌, Bool, false, cond, Option, None, Some, Result, Ok, Err, List, [], ◌∷◌, nat_eq}
 use Rattle.std.specs.Char.{is_ascii_digit}
-use Rattle.ir_line.specs.Values.{number_of}
+use Rattle.vx_digits.specs.Numbers.{number_of}
 use Rattle.ir_types.specs.declared.func.Param.{Param}
 use Rattle.ir_read.specs.declared.refusal.ReadRefusal.{ReadRefusal}
 use Rattle.ir_read.specs.declared.refusal.ReadRefusal.TheVariants.{Misplaced}

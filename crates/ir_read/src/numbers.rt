@@ -4,59 +4,19 @@
 //! refuses the line as misplaced where a written number is not the next.
 
 ghost use Rattle.std.specs.Prelude.{◌≡◌, ◌+◌, IfOk};
-ghost use Rattle.ir_line.specs.Values as values;
 ghost use Rattle.ir_read.specs.Answers.{Gives};
 ghost use Rattle.ir_read.specs.Numbers as numbers;
 
 use crate::ReadRefusal;
 use ir_types::{Bytes, Param};
 use std::alloc::AllocError;
+use vx_digits::number;
 
 /// One more. That there is such a number is a matter of memory: it counts what is kept.
 pub(crate) fn one_more(count: u32) -> Result<u32, AllocError>
     ensures { IfOk result (λ more. more ≡ count + 1) }
 {
     count.checked_add(1).ok_or(AllocError)
-}
-
-/// The number with one more digit, where that is below 2^64.
-#[tactic(auto, unfolding(ir_line::specs::Values::one_more))]
-fn with_digit(n: u64, digit: u8) -> Option<u64>
-    ensures { result ≡ values.one_more n digit }
-{
-    if !digit.is_ascii_digit() {
-        return None;
-    }
-    let more = u128::from(n) * 10 + u128::from(digit - b'0');
-    if more < 1 << 64 {
-        Some(more as u64)
-    } else {
-        None
-    }
-}
-
-/// The number of these digits.
-fn number_from(digits: &[u8]) -> Option<u64>
-    ensures { result ≡ values.number_from 0 digits.now }
-{
-    let mut n: u64 = 0;
-    let mut rest = digits;
-    'each: while let [digit, after @ ..] = rest {
-        n = with_digit(n, *digit)?;
-        rest = after;
-    }
-    Some(n)
-}
-
-/// The number that a word is, if it is one below 2^64.
-#[tactic(auto, unfolding(ir_line::specs::Values::number_of))]
-fn number_of(word: &[u8]) -> Option<u64>
-    ensures { result ≡ values.number_of word.now }
-{
-    match word {
-        [] => None,
-        _ => number_from(word),
-    }
 }
 
 /// Whether a name is a number.
@@ -87,7 +47,7 @@ pub(crate) fn after_name(line: u32, next: u32, name: &[u8]) -> Result<u32, ReadR
     if !is_unnamed(name) {
         return Ok(next);
     }
-    if is_next(next, number_of(name)) {
+    if is_next(next, number(name)) {
         Ok(one_more(next)?)
     } else {
         Err(ReadRefusal::Misplaced { line })

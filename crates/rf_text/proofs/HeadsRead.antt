@@ -3,6 +3,7 @@ use Rattle.std.proofs.Common.{◌≡◌, ℕ, suc, ◌+◌, ◌-◌, ◌≤◌, 
 use Rattle.std.proofs.Math.Seq.{take-append_seam, drop-append_seam}
 use Rattle.std.proofs.lemmas.List.{map-append, length-map, drop-map}
 use Rattle.std.specs.List.{list_all}
+use Rattle.vx_digits.specs.Optional.{◌>>=◌}
 use Rattle.ir_lex.specs.Words.{word, words}
 use Rattle.ir_lex.specs.declared.list.Token.{Token}
 use Rattle.ir_lex.proofs.Again.{no_from}
@@ -11,7 +12,7 @@ use Rattle.ir_types.specs.declared.ty.Ty.{Ty}
 use Rattle.ir_types.specs.declared.ty.Ty.TheVariants.{Void}
 use Rattle.ir_types.specs.declared.func.Param.{Param}
 use Rattle.ir_line.specs.Values.{width_of, named, local_of, symbol_of}
-use Rattle.ir_line.specs.Words.{Words, ◌>>=◌, is_first}
+use Rattle.ir_line.specs.Words.{Words, is_first}
 use Rattle.ir_line.specs.Reading.{ty_at}
 use Rattle.ir_line.specs.Pieces.{SpellsTy, Integer, Pointer, Vector}
 use Rattle.ir_line.specs.Keeping.{is_some}

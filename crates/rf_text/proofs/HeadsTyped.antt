@@ -1,11 +1,12 @@
 -- The types that a header has, by the words that spell them.
 use Rattle.std.proofs.Common.{◌≡◌, ℕ, ◌-◌, ◌*◌, ◌≤◌, Bool, true, false, cond, ◌||◌, List, [], ◌∷◌, length, drop, Option, Some, None, codes, bytes_eq, nat_eq, nat_le, refl, sym, ◌∙◌, ap, subst, arith, eqb-true, length-drop}
 use Rattle.std.specs.List.{list_all}
+use Rattle.vx_digits.specs.Numbers.{number_of, one_more}
 use Rattle.ir_lex.proofs.Classes.{both}
 use Rattle.ir_types.specs.declared.ty.Ty.{Ty}
 use Rattle.ir_types.specs.declared.ty.Ty.TheVariants.{Void, Int, Ptr, Row}
 use Rattle.ir_types.specs.Typed.{is_width, is_count, is_vector, is_value}
-use Rattle.ir_line.specs.Values.{width_of, number_of, one_more, unquoted, symbol_of}
+use Rattle.ir_line.specs.Values.{width_of, unquoted, symbol_of}
 use Rattle.ir_line.specs.Words.{Words, is_first}
 use Rattle.ir_line.specs.Pieces.{SpellsTy, Integer, Pointer, Vector}
 use Rattle.ir_line.specs.Reading.{is_row, ty_at}

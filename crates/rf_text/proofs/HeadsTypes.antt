@@ -2,6 +2,7 @@
 use Rattle.std.proofs.Common.{◌≡◌, ℕ, ◌==◌, ◌*◌, Bool, true, false, not, ◌&&◌, List, [], ◌∷◌, length, Some, None, codes, bytes_eq, nat_le, inl, inr, refl, sym, subst, eqb-true}
 use Rattle.std.specs.List.{list_all}
 use Rattle.std.specs.Fmt.{digits}
+use Rattle.vx_digits.specs.Numbers.{number_of, one_more}
 use Rattle.ir_lex.specs.Bytes.{begins_name, is_word_byte, is_digit, is_sigil, is_mark, is_blank, is_control}
 use Rattle.ir_lex.specs.Ends.{ends_outside}
 use Rattle.ir_lex.specs.Scan.{string_len, name_len, more_len, texts, fault_of}
@@ -10,7 +11,7 @@ use Rattle.ir_lex.proofs.Classes.{both, either}
 use Rattle.ir_types.specs.declared.ty.Ty.{Ty}
 use Rattle.ir_types.specs.declared.ty.Ty.TheVariants.{Void, Int, Ptr, Row}
 use Rattle.ir_types.specs.Typed.{is_width, is_count, is_vector, is_value}
-use Rattle.ir_line.specs.Values.{width_of, number_of, one_more, symbol_of}
+use Rattle.ir_line.specs.Values.{width_of, symbol_of}
 use Rattle.ir_line.specs.Words.{is_ascii}
 use Rattle.ir_line.specs.Pieces.{SpellsTy}
 use Rattle.ir_line.specs.Reading.{row_at, ty_at}

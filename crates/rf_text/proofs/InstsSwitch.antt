@@ -3,6 +3,7 @@ use Rattle.std.proofs.Common.{◌≡◌, ℕ, ◌^◌, ◌<◌, true, arith, Lis
 use Rattle.std.proofs.lemmas.List.Elements.{All-head, All-tail, All-weaker}
 use Rattle.std.specs.List.{All, AllPairs}
 use Rattle.std.specs.Fmt.{decimal}
+use Rattle.vx_digits.specs.Lanes.{number_text}
 use Rattle.ir_types.specs.declared.id.Id.{Id}
 use Rattle.ir_types.specs.declared.ty.Ty.{Ty}
 use Rattle.ir_types.specs.declared.ty.Ty.TheVariants.{Void, Int}
@@ -17,7 +18,6 @@ use Rattle.ir_line.specs.Values.{bits_number}
 use Rattle.ir_line.specs.Pieces.{Says, Case}
 use Rattle.ir_line.specs.Forms as forms
 use Rattle.ir_line.specs.Forms.{Slot, slot, slots, word, arg}
-use Rattle.ir_print.specs.Literals.{number_text}
 use Rattle.ir_print.specs.Names.{Names}
 use Rattle.ir_print.specs.Operands.{opd_ty, typed_text, label_text}
 use Rattle.ir_print.specs.Instructions.{inst_text, case_text, cases_text, switch_width}

@@ -4,6 +4,9 @@ use Rattle.std.proofs.lemmas.Bool.Decides.{nat_tests}
 use Rattle.std.proofs.lemmas.List.Elements.{All-head, All-tail}
 use Rattle.std.specs.List.{list_all, All}
 use Rattle.std.specs.Fmt.{decimal}
+use Rattle.vx_digits.specs.Lanes.{number_text, lane_text}
+use Rattle.vx_digits.specs.Numbers.{number_of, one_more, fitting, negative}
+use Rattle.vx_digits.specs.Optional.{when}
 use Rattle.vx_num.specs.Width.{IsLane}
 use Rattle.ir_types.specs.declared.ty.Ty.{Ty}
 use Rattle.ir_types.specs.declared.ty.Ty.TheVariants.{Void, Int, Ptr, Row}
@@ -12,11 +15,11 @@ use Rattle.ir_lex.specs.Bytes.{begins_name, is_word_byte, is_control}
 use Rattle.ir_lex.specs.Scan.{texts}
 use Rattle.ir_lex.proofs.Again.{stops, texts_space}
 use Rattle.ir_lex.proofs.Classes.{both, clash}
-use Rattle.ir_line.specs.Words.{Words, when}
-use Rattle.ir_line.specs.Values.{number_of, one_more, fitting, negative, decimal_of, bits_number, lane_of}
+use Rattle.ir_line.specs.Words.{Words}
+use Rattle.ir_line.specs.Values.{decimal_of, bits_number, lane_of}
 use Rattle.ir_line.specs.Pieces.{Lane, SpellsList, LastLane, MoreLanes, SpellsRow, Poison, Zero, Listed, SpellsLanes, Scalar, NoPointer, Lanes}
 use Rattle.ir_line.proofs.Steps.{nothing, apart}
-use Rattle.ir_print.specs.Literals.{number_text, lane_text, more_lanes_text, lanes_text, vector_text, lits_text, is_poison, is_zero}
+use Rattle.ir_print.specs.Literals.{more_lanes_text, lanes_text, vector_text, lits_text, is_poison, is_zero}
 use Rattle.rf_text.proofs.Words.{is_plain, plain_append, run_plain, is_run, run_texts}
 use Rattle.rf_text.proofs.WordsNames.{run_is_plain}
 use Rattle.rf_text.proofs.WordsNumbers.{decimal_is, decimal_read, decimal_run, decimal_word}

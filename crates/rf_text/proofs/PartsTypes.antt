@@ -2,6 +2,7 @@
 use Rattle.std.proofs.Common.{◌≡◌, ℕ, ◌*◌, ◌^◌, ◌<◌, ◌≤◌, ◌==◌, inl, inr, Bool, true, false, ◌&&◌, ◌||◌, List, ◌∷◌, ◌++◌, nat_eq, nat_le, Some, refl, sym, ◌∙◌, ap, subst, codes, append_assoc, arith, eqb-true}
 use Rattle.std.specs.List.{list_all}
 use Rattle.std.specs.Fmt.{decimal, digits}
+use Rattle.vx_digits.specs.Numbers.{number_of}
 use Rattle.ir_types.specs.declared.ty.Ty.{Ty}
 use Rattle.ir_types.specs.declared.ty.Ty.TheVariants.{Void, Int, Ptr, Row}
 use Rattle.ir_types.specs.Typed.{is_width, is_count, is_vector, is_value}
@@ -11,7 +12,7 @@ use Rattle.ir_lex.proofs.Again.{texts_space}
 use Rattle.ir_lex.proofs.Classes.{both, either, clash}
 use Rattle.ir_line.specs.Kinds.{fits}
 use Rattle.ir_line.specs.Words.{Words}
-use Rattle.ir_line.specs.Values.{width_of, number_of}
+use Rattle.ir_line.specs.Values.{width_of}
 use Rattle.ir_line.specs.Reading.{is_row}
 use Rattle.ir_line.specs.Pieces.{SpellsTy, SpellsKind, Integer, Pointer, Vector}
 use Rattle.ir_print.specs.Literals.{ty_text}

@@ -5,6 +5,7 @@ use Rattle.std.proofs.lemmas.List.{append-nil}
 use Rattle.std.proofs.lemmas.List.Elements.{All-nil, All-cons}
 use Rattle.std.specs.Char.{is_ascii_digit}
 use Rattle.std.specs.List.{All, list_all}
+use Rattle.vx_digits.specs.Optional.{when}
 use Rattle.ir_lex.specs.Bytes.{quote, begins_name, is_word_byte, is_digit, is_sigil, is_mark}
 use Rattle.ir_lex.specs.Scan.{cut, fault_of}
 use Rattle.ir_lex.specs.Tokens.{IsToken, Name, QuotedName, Unnamed, Text, Mark, Run, Single, is_name}
@@ -21,7 +22,7 @@ use Rattle.ir_line.specs.declared.stmt.Stmt.{Stmt}
 use Rattle.ir_line.specs.declared.line.Line.{Line}
 use Rattle.ir_line.specs.declared.line.Line.TheVariants as lines
 use Rattle.ir_line.specs.Values.{local_of, label_of, plain_number}
-use Rattle.ir_line.specs.Words.{Words, when}
+use Rattle.ir_line.specs.Words.{Words}
 use Rattle.ir_line.specs.Pieces.{Says}
 use Rattle.ir_line.specs.Forms.{Form, Label, Choice, ChoicesEnd, Binary, Compare, Convert, Select, Extract, Insert, Shuffle, Step, StepInto, Load, Allocate, Phi, Store, Return, ReturnValue, Jump, Branch, Switch, Unreachable, slots, Spell, line_of, arg}
 use Rattle.ir_line.specs.Body.{Spells, NoWord, Brace, Formed, Called, attachment_at, unattached}

@@ -8,11 +8,12 @@ use Rattle.std.specs.Char.{is_ascii_digit, digit_value}
 use Rattle.std.specs.Fmt.{decimal}
 use Rattle.std.specs.List.{list_all}
 use Rattle.std.specs.Str.Parse.{AllDigits, digits_value_after, digits_value}
+use Rattle.vx_digits.specs.Numbers.{number_of, number_from, one_more}
+use Rattle.vx_digits.specs.Optional.{◌>>=◌, when}
 use Rattle.ir_lex.specs.Bytes.{begins_name, is_word_byte, is_digit}
 use Rattle.ir_lex.specs.Tokens.{is_name, is_number}
 use Rattle.ir_lex.proofs.Classes.{both, digit_no_name}
-use Rattle.ir_line.specs.Values.{number_of, number_from, one_more, plain_number}
-use Rattle.ir_line.specs.Words.{◌>>=◌, when}
+use Rattle.ir_line.specs.Values.{plain_number}
 use Rattle.ir_line.proofs.Steps.{bytes_is}
 use Rattle.ir_read.specs.declared.refusal.ReadRefusal.{ReadRefusal}
 use Rattle.ir_read.specs.declared.refusal.ReadRefusal.TheVariants.{Misplaced}

@@ -3,6 +3,7 @@ use Rattle.std.proofs.Common.{◌≡◌, ℕ, ◌+◌, ◌^◌, ◌<◌, inl, in
 use Rattle.std.specs.List.{All, AllZip}
 use Rattle.std.proofs.lemmas.List.Elements.{All-head, All-tail}
 use Rattle.std.specs.Prelude.{unwrap_or}
+use Rattle.vx_digits.specs.Numbers.{number_of}
 use Rattle.ir_types.specs.declared.op.Op.{Op}
 use Rattle.ir_types.specs.declared.op.Op.TheVariants.{Alloca, Call}
 use Rattle.ir_types.specs.declared.inst.Inst.{Inst}
@@ -11,7 +12,6 @@ use Rattle.ir_types.specs.declared.func.Block.{Block}
 use Rattle.ir_types.specs.Formed.{is_phi, is_terminator, PhisFirst}
 use Rattle.ir_line.specs.declared.line.Line.{Line}
 use Rattle.ir_line.specs.declared.line.Line.TheVariants as line
-use Rattle.ir_line.specs.Values.{number_of}
 use Rattle.ir_print.specs.Names.{Names, Named, Value, Label, params_named, shown, counted, local_of, is_store, is_void}
 use Rattle.ir_read.specs.declared.refusal.ReadRefusal.{ReadRefusal}
 use Rattle.ir_read.specs.declared.refusal.ReadRefusal.TheVariants.{Misplaced, NotALine}

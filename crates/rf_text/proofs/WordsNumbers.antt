@@ -5,11 +5,12 @@ use Rattle.std.proofs.lemmas.Fmt.{decimal_by_steps}
 use Rattle.std.specs.Fmt.{decimal}
 use Rattle.std.specs.List.{list_all}
 use Rattle.std.specs.Char.{is_ascii_digit}
+use Rattle.vx_digits.specs.Numbers.{number_of, number_from, one_more}
+use Rattle.vx_digits.specs.Optional.{◌>>=◌}
 use Rattle.ir_lex.specs.Bytes.{is_digit, is_word_byte}
 use Rattle.ir_lex.specs.Tokens.{is_number}
 use Rattle.ir_lex.proofs.Classes.{both, clash, digit_word}
-use Rattle.ir_line.specs.Words.{◌>>=◌}
-use Rattle.ir_line.specs.Values.{number_of, number_from, one_more, plain_number}
+use Rattle.ir_line.specs.Values.{plain_number}
 use Rattle.rf_text.proofs.Words.{is_run}
 
 -- whether the first of these is no zero

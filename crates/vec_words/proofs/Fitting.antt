@@ -8,6 +8,8 @@ use Rattle.std.proofs.lemmas.Int.{ints}
 use Rattle.std.proofs.lemmas.Bool.Decides.{nat_tests}
 use Rattle.std.proofs.lemmas.List.{length-append, length-replicate}
 use Rattle.std.proofs.lemmas.List.Elements.{All-nil, All-cons, All-replicate}
+use Rattle.vx_digits.specs.Numbers.{fitting, negative}
+use Rattle.vx_digits.specs.Optional.{◌>>=◌, when}
 use Rattle.vx_num.specs.Width.{IsLane}
 use Rattle.ir_types.specs.declared.ty.Ty.{Ty}
 use Rattle.ir_types.specs.declared.ty.Ty.TheVariants.{Void, Int, Ptr, Row as RowTy}
@@ -29,11 +31,11 @@ use Rattle.vec_words.specs.declared.global.Contents.{Contents}
 use Rattle.vec_words.specs.declared.global.Given.{Given}
 use Rattle.vec_words.specs.declared.starts.Start.{Start}
 use Rattle.vec_words.specs.declared.run_words.Called.{Called}
-use Rattle.vec_words.specs.Answers.{◌>>=◌, when, choose}
+use Rattle.vec_words.specs.Answers.{choose}
 use Rattle.vec_words.specs.Numbers.{offset_of, plain_of}
 use Rattle.vec_words.specs.Pieces.{behind, cut, closed, piece}
 use Rattle.vec_words.specs.Hex.{digit_of, byte_of, bytes_behind, bytes_of}
-use Rattle.vec_words.specs.Literals.{lit_of, fitting, negative, lane_in, lanes_behind}
+use Rattle.vec_words.specs.Literals.{lit_of, lane_in, lanes_behind}
 use Rattle.vec_words.specs.Calls.{goes_on_with, name_of, callable_of, lits_within, row_arg, made_arg, makes, within_arg, global_arg, plain_arg, arg_of, args_within, args_of, call_of, contents_of}
 use Rattle.vec_words.specs.Arguments.{place_from, int_value, row_lanes, pointer_into, pointer_to, pointer_value, value_in, made_count, values_behind}
 use Rattle.vec_words.specs.Globals.{untouched, is_free, with_bytes_at, with_word, then_words, with_words}

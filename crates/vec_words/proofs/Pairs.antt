@@ -1,6 +1,6 @@
 -- Bytes two digits at a time.
 use Rattle.std.proofs.Common.{◌≡◌, ℕ, ◌<◌, Option, Some, None, List, [], ◌∷◌, ◌++◌, length, refl, ap, arith}
-use Rattle.vec_words.specs.Answers.{◌>>=◌}
+use Rattle.vx_digits.specs.Optional.{◌>>=◌}
 use Rattle.vec_words.specs.Hex.{byte_of, pair_of, bytes_behind}
 
 abbrev pub with_rest : List ℕ → Option ℕ → Option (Option ℕ × List ℕ)

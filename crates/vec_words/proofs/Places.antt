@@ -1,8 +1,9 @@
 -- The place of a faulty word, command by command.
 use Rattle.std.proofs.Common.{◌≡◌, ℕ, suc, ◌+◌, ◌<◌, ◌≤◌, Bool, true, false, cond, Option, Some, None, Result, Ok, Err, List, [], ◌∷◌, ◌++◌, take, length, bytes_eq, codes, refl, ap, ◌∙◌, subst, arith}
+use Rattle.vx_digits.specs.Numbers.{number_of, one_more}
 use Rattle.vec_words.specs.declared.commands.Command.{Command}
 use Rattle.vec_words.specs.declared.commands.Command.TheVariants.{Print, Opt, Run}
-use Rattle.vec_words.specs.Numbers.{steps_of, plain_of, number_of, one_more}
+use Rattle.vec_words.specs.Numbers.{steps_of, plain_of}
 use Rattle.vec_words.specs.Pieces.{cut, closed}
 use Rattle.vec_words.specs.Calls.{is_some, call_of, contents_of}
 use Rattle.vec_words.specs.Commands.{alone, bad_from, unless, with_call, with_bound, with_steps, run_of, command_of, IsFine, IsPlace}

@@ -5,15 +5,6 @@ use Rattle.vec_words.specs.declared.refusal.Stop.TheVariants.{Unfit, NoMemory}
 use Rattle.vec_words.specs.declared.refusal.WordsRefusal.{WordsRefusal}
 use Rattle.vec_words.specs.declared.refusal.WordsRefusal.TheVariants.{Word, OutOfMemory}
 
-infixl 10 ◌>>=◌
-abbrev pub ◌>>=◌ : {A B : Type 0} → Option A → (A → Option B) → Option B
-o >>= f = option_and_then f o
-
--- the value, where the test holds
-abbrev pub when : {A : Type 0} → Bool → A → Option A
-when true a = Some a
-when false a = None
-
 -- the first of two readings that finds something
 abbrev pub choose : {A B : Type 0} → Option A → (A → Option B) → Option B → Option B
 choose None f other = other

@@ -1,5 +1,6 @@
 -- The values that the arguments of a call word are at the parameters' types.
 use Rattle.std.specs.Prelude.{ℕ, suc, ℤ, pos, ◌+◌, cond, Option, Some, None, List, [], ◌∷◌, ◌++◌, length, replicate, bytes_eq, nat_eq, slice_get}
+use Rattle.vx_digits.specs.Optional.{◌>>=◌}
 use Rattle.ir_types.specs.declared.ty.Ty.{Ty}
 use Rattle.ir_types.specs.declared.ty.Ty.TheVariants.{Void, Int, Ptr, Row}
 use Rattle.ir_types.specs.declared.func.Param.{Param}
@@ -8,7 +9,6 @@ use Rattle.ir_model.specs.declared.value.Value.TheVariants.{Lane as LaneValue, R
 use Rattle.vec_words.specs.declared.literal.Lit.TheVariants.{Poison}
 use Rattle.vec_words.specs.declared.call.Arg.{Arg}
 use Rattle.vec_words.specs.declared.call.Arg.TheVariants.{One, Zero, Row as RowArg, Made, Within, Global}
-use Rattle.vec_words.specs.Answers.{◌>>=◌}
 use Rattle.vec_words.specs.Literals.{lane_in, lanes_behind}
 
 -- the place of the first name that is this one, where the first of these has the place `at`

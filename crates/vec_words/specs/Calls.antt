@@ -1,13 +1,15 @@
 -- How a call word and the words of globals are spelled.
 use Rattle.std.specs.Prelude.{◌≡◌, refl, ℕ, pos, Bool, true, false, cond, Option, Some, None, List, [], ◌∷◌, ◌++◌, bytes_eq, slice_get, codes}
+use Rattle.vx_digits.specs.Numbers.{number_of, one_more}
+use Rattle.vx_digits.specs.Optional.{◌>>=◌, when}
 use Rattle.vec_words.specs.declared.literal.Lit.{Lit}
 use Rattle.vec_words.specs.declared.literal.Lit.TheVariants.{Number, Poison}
 use Rattle.vec_words.specs.declared.call.Arg.{Arg}
 use Rattle.vec_words.specs.declared.call.Arg.TheVariants.{One, Zero, Row, Made, Within, Global}
 use Rattle.vec_words.specs.declared.call.Call.{Call}
 use Rattle.vec_words.specs.declared.global.Contents.{Contents}
-use Rattle.vec_words.specs.Answers.{◌>>=◌, when, choose}
-use Rattle.vec_words.specs.Numbers.{plain_of, offset_of, number_of, one_more}
+use Rattle.vec_words.specs.Answers.{choose}
+use Rattle.vec_words.specs.Numbers.{plain_of, offset_of}
 use Rattle.vec_words.specs.Pieces.{behind, cut, closed, piece, is_name, is_callable}
 use Rattle.vec_words.specs.Literals.{lit_of, signed_of}
 use Rattle.vec_words.specs.Hex.{bytes_of, byte_of, digit_of}

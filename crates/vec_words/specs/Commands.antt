@@ -1,8 +1,9 @@
 -- The command that words are, or the place of the word that cannot stand, and the rule of that place.
 use Rattle.std.specs.Prelude.{◌≡◌, refl, ℕ, suc, ◌<◌, ◌≤◌, cond, Option, Some, None, Result, Ok, Err, List, [], ◌∷◌, ◌++◌, take, length, bytes_eq, codes}
+use Rattle.vx_digits.specs.Numbers.{number_of, one_more}
 use Rattle.vec_words.specs.declared.commands.Command.{Command}
 use Rattle.vec_words.specs.declared.commands.Command.TheVariants.{Print, Opt, Run}
-use Rattle.vec_words.specs.Numbers.{steps_of, plain_of, number_of, one_more}
+use Rattle.vec_words.specs.Numbers.{steps_of, plain_of}
 use Rattle.vec_words.specs.Calls.{is_some, call_of, contents_of}
 use Rattle.vec_words.specs.Pieces.{cut, closed}
 

@@ -1,7 +1,7 @@
 -- The objects of the globals, by the words that say their bytes.
 use Rattle.std.specs.Prelude.{ℕ, suc, Bool, true, false, ◌&&◌, Option, Some, None, Result, Ok, Err, List, [], ◌∷◌, length, replicate, nat_lt, slice_get, slice_set}
+use Rattle.vx_digits.specs.Optional.{◌>>=◌, when}
 use Rattle.vec_words.specs.declared.global.Given.{Given}
-use Rattle.vec_words.specs.Answers.{◌>>=◌, when}
 use Rattle.vec_words.specs.Calls.{contents_of}
 use Rattle.vec_words.specs.Arguments.{place_from}
 

@@ -1,6 +1,6 @@
 -- Bytes as pairs of hexadecimal digits, and `??` for poison: read and written.
 use Rattle.std.specs.Prelude.{◌≡◌, refl, ℕ, ◌+◌, ◌-◌, ◌*◌, ◌/◌, ◌%◌, ◌&&◌, cond, Option, Some, None, List, [], ◌∷◌, ◌++◌, length, nat_eq, nat_lt, nat_le, codes}
-use Rattle.vec_words.specs.Answers.{◌>>=◌, when}
+use Rattle.vx_digits.specs.Optional.{◌>>=◌, when}
 
 -- a lower-case hexadecimal digit
 unfoldable pub digit_of : ℕ → Option ℕ

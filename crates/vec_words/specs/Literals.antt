@@ -1,9 +1,9 @@
 -- Literals of a call word: how they are spelled, and which lane of a width each is.
 use Rattle.std.specs.Prelude.{◌≡◌, refl, ℕ, ◌-◌, ◌*◌, ◌^◌, true, false, cond, Option, Some, None, List, [], ◌∷◌, ◌++◌, bytes_eq, nat_eq, nat_lt, nat_le, codes}
+use Rattle.vx_digits.specs.Numbers.{number_of, one_more, fitting, negative}
+use Rattle.vx_digits.specs.Optional.{◌>>=◌, when}
 use Rattle.vec_words.specs.declared.literal.Lit.{Lit}
 use Rattle.vec_words.specs.declared.literal.Lit.TheVariants.{Number, Truth, Poison}
-use Rattle.vec_words.specs.Answers.{◌>>=◌, when}
-use Rattle.vec_words.specs.Numbers.{number_of, one_more}
 
 -- a decimal behind a minus
 abbrev pub minus_of : List ℕ → Option Lit
@@ -23,14 +23,6 @@ lit_of t =
     (cond (bytes_eq t (codes "true")) (Some (Truth true))
     (cond (bytes_eq t (codes "false")) (Some (Truth false))
     (signed_of t)))
-
--- n of w bits, where it is below 2^w
-unfoldable pub fitting : ℕ → ℕ → Option ℕ
-fitting w n = cond (nat_lt 64 w) None (when (nat_lt n (2 ^ w)) n)
-
--- -n of w bits, where it is at least -2^(w - 1)
-unfoldable pub negative : ℕ → ℕ → Option ℕ
-negative w n = cond (nat_lt 64 w) None (cond (nat_eq n 0) (Some 0) (when (nat_le (2 * n) (2 ^ w)) (2 ^ w - n)))
 
 -- the lane of w bits that a literal is, where it is one: a number in the range of w bits, a truth value of one bit, or poison
 unfoldable pub lane_in : ℕ → Lit → Option (Option ℕ)

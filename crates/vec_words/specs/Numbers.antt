@@ -1,21 +1,8 @@
--- Decimal numbers: digits by their value, and those that may have no leading zero.
+-- Decimal numbers of words: those that may have no leading zero, bounds and offsets.
 use Rattle.std.specs.Prelude.{◌≡◌, refl, ℕ, ℤ, pos, ◌+◌, ◌-◌, ◌*◌, ◌^◌, Bool, true, not, cond, Option, Some, None, List, [], ◌∷◌, nat_eq, nat_lt, nat_le, codes}
 use Rattle.std.specs.Char.{is_ascii_digit}
-use Rattle.vec_words.specs.Answers.{◌>>=◌, when}
-
--- n with one more digit behind it, where that is below 2^64
-unfoldable pub one_more : ℕ → ℕ → Option ℕ
-one_more n d = cond (is_ascii_digit d) (when (nat_lt (n * 10 + (d - 48)) (2 ^ 64)) (n * 10 + (d - 48))) None
-
--- the number whose decimal digits, behind others of the value n, these are
-abbrev pub number_from : ℕ → List ℕ → Option ℕ
-number_from n [] = Some n
-number_from n (d ∷ ds) = one_more n d >>= (λ m. number_from m ds)
-
--- a number below 2^64 by its value, with leading zeros or without
-unfoldable pub number_of : List ℕ → Option ℕ
-number_of [] = None
-number_of (d ∷ ds) = number_from 0 (d ∷ ds)
+use Rattle.vx_digits.specs.Optional.{◌>>=◌, when}
+use Rattle.vx_digits.specs.Numbers.{number_of, one_more}
 
 -- whether no zero stands before another digit
 abbrev pub is_plain : List ℕ → Bool

@@ -2,6 +2,7 @@
 -- Each is total: a value that is of another type than the one given has some text all the same.
 use Rattle.std.specs.Prelude.{◌≡◌, refl, ℕ, suc, ℤ, pos, negsuc, ◌-◌, ◌^◌, Option, Some, None, List, [], ◌∷◌, ◌++◌, codes, nat_eq, nat_lt, if◌then◌else◌}
 use Rattle.std.specs.Fmt.{decimal, digits}
+use Rattle.vx_digits.specs.Lanes.{lane_text}
 use Rattle.ir_types.specs.declared.ty.Ty.{Ty}
 use Rattle.ir_types.specs.declared.ty.Ty.TheVariants.{Void, Int, Ptr, Row}
 use Rattle.ir_model.specs.declared.value.Value.{Value}
@@ -9,17 +10,6 @@ use Rattle.ir_model.specs.declared.value.Value.TheVariants.{Lane as LaneValue, R
 use Rattle.ir_model.specs.declared.outcome.Outcome.{Outcome}
 use Rattle.ir_model.specs.declared.outcome.Outcome.TheVariants.{Returned, Undefined, Cut}
 use Rattle.vec_words.specs.Hex.{bytes_text}
-
--- the number n of w bits, read as signed; of one bit, as a truth value
-abbrev pub number_text : ℕ → ℕ → List ℕ
-number_text w n =
-    if nat_eq w 1 then (if nat_eq n 0 then codes "false" else codes "true")
-    else if nat_lt n (2 ^ (w - 1)) then decimal n
-    else codes "-" ++ decimal (2 ^ w - n)
-
-abbrev pub lane_text : ℕ → Option ℕ → List ℕ
-lane_text w None = codes "poison"
-lane_text w (Some n) = number_text w n
 
 abbrev pub more_lanes_text : ℕ → List (Option ℕ) → List ℕ
 more_lanes_text w [] = []

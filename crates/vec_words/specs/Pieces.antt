@@ -2,7 +2,7 @@
 use Rattle.std.specs.Prelude.{◌≡◌, refl, ℕ, suc, ◌+◌, ◌-◌, Bool, true, false, not, ◌&&◌, ◌||◌, cond, Option, Some, None, List, [], ◌∷◌, length, take, drop, slice_index, nat_eq, nat_lt, codes}
 use Rattle.std.specs.Char.{is_ascii_digit, is_ascii_alphabetic}
 use Rattle.std.specs.List.{list_all}
-use Rattle.vec_words.specs.Answers.{when}
+use Rattle.vx_digits.specs.Optional.{when}
 
 -- what follows a front
 abbrev pub behind : List ℕ → List ℕ → Option (List ℕ)

@@ -1,6 +1,7 @@
 -- How a run starts: the function, its arguments and the memory that the words behind the options say.
 -- Objects are numbered: those of the globals in the module's order, and then those that arguments make, in order.
 use Rattle.std.specs.Prelude.{◌≡◌, ℕ, suc, cond, Option, Some, None, Result, Ok, Err, List, [], ◌∷◌, ◌++◌, length, bytes_eq, slice_get}
+use Rattle.vx_digits.specs.Optional.{◌>>=◌}
 use Rattle.ir_types.specs.declared.func.Func.{Func}
 use Rattle.ir_types.specs.declared.module.Module.{Module}
 use Rattle.ir_model.specs.Run.{functions_of}
@@ -10,7 +11,6 @@ use Rattle.vec_words.specs.declared.call.Arg.TheVariants.{Made}
 use Rattle.vec_words.specs.declared.global.Given.{Given}
 use Rattle.vec_words.specs.declared.starts.Start.{Start}
 use Rattle.vec_words.specs.declared.run_words.Called.{Called}
-use Rattle.vec_words.specs.Answers.{◌>>=◌}
 use Rattle.vec_words.specs.Calls.{call_of}
 use Rattle.vec_words.specs.Arguments.{values_behind}
 use Rattle.vec_words.specs.Globals.{untouched, with_words}

@@ -3,14 +3,15 @@
 //! `literal` reads one; `lane_in` is its lane at a width. Each stops where there is none.
 
 ghost use Rattle.std.specs.Prelude.{◌≡◌, ◌*◌, ◌-◌, ◌^◌, ◌<◌, ◌≤◌, nat_le, []};
-ghost use Rattle.vec_words.specs.Answers.{Gives, when};
+ghost use Rattle.vx_digits.specs.Optional.{when};
+ghost use Rattle.vec_words.specs.Answers.{Gives};
 ghost use Rattle.vec_words.specs.Literals as literals;
 
-use crate::numbers::number;
 use crate::pieces::is;
 use crate::refusal::Stop;
 use ir_types::Lits;
 use std::alloc::Global;
+use vx_digits::{fitting, negative, number};
 use vx_num::Lane;
 
 /// A literal.
@@ -66,48 +67,6 @@ pub(crate) fn literal(text: &[u8]) -> Option<Lit>
         return Some(Lit::Truth(false));
     }
     signed(text)
-}
-
-/// A number, where it has `w` bits.
-#[tactic(auto, unfolding(crate::specs::Literals::fitting))]
-fn fitting(w: u8, n: u64) -> Option<u64>
-    ensures { result ≡ literals.fitting w n }
-{
-    if w > 64 {
-        return None;
-    }
-    if u128::from(n) < 1u128 << w {
-        Some(n)
-    } else {
-        None
-    }
-}
-
-/// A number with a minus, in two's complement of `w` bits, where it is not below the least.
-#[tactic(auto, unfolding(crate::specs::Literals::negative))]
-fn negative(w: u8, n: u64) -> Option<u64>
-    ensures { result ≡ literals.negative w n }
-{
-    if w > 64 {
-        return None;
-    }
-    if n == 0 {
-        return Some(0);
-    }
-    below(1u128 << w, n)
-}
-
-/// How far `n` is below `all`, where it is at most half of that.
-fn below(all: u128, n: u64) -> Option<u64>
-    requires wide { all ≤ 2 ^ 64 }
-    requires some { 0 < n }
-    ensures { result ≡ when (nat_le (2 * n) all) (all - n) }
-{
-    if 2 * u128::from(n) <= all {
-        Some((all - u128::from(n)) as u64)
-    } else {
-        None
-    }
 }
 
 /// The lane of `w` bits that a literal is.

@@ -1,49 +1,11 @@
-//! Decimal numbers: `number` by its value, `plain` without leading zeros.
+//! Decimal numbers of words: `plain` without leading zeros, a bound on blocks, an offset.
 //!
 //! Each answers with nothing where the text is no such number.
 
 ghost use Rattle.std.specs.Prelude.{◌≡◌};
 ghost use Rattle.vec_words.specs.Numbers as numbers;
 
-/// A number by its value, below 2^64.
-#[tactic(auto, unfolding(crate::specs::Numbers::number_of))]
-pub(crate) fn number(text: &[u8]) -> Option<u64>
-    ensures { result ≡ numbers.number_of text.now }
-{
-    match text {
-        [] => None,
-        _ => number_from(text),
-    }
-}
-
-/// The number of these digits.
-fn number_from(text: &[u8]) -> Option<u64>
-    ensures { result ≡ numbers.number_from 0 text.now }
-{
-    let mut n: u64 = 0;
-    let mut rest = text;
-    'each: while let [digit, after @ ..] = rest {
-        n = one_more(n, *digit)?;
-        rest = after;
-    }
-    Some(n)
-}
-
-/// The number with one more digit.
-#[tactic(auto, unfolding(crate::specs::Numbers::one_more))]
-fn one_more(n: u64, digit: u8) -> Option<u64>
-    ensures { result ≡ numbers.one_more n digit }
-{
-    if !digit.is_ascii_digit() {
-        return None;
-    }
-    let more = u128::from(n) * 10 + u128::from(digit - b'0');
-    if more < 1 << 64 {
-        Some(more as u64)
-    } else {
-        None
-    }
-}
+use vx_digits::number;
 
 /// Whether no zero stands before another digit.
 fn is_plain(text: &[u8]) -> bool

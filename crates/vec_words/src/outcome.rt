@@ -9,75 +9,9 @@ ghost use Rattle.vec_words.specs.Outcomes as outcomes;
 use crate::hex::push_bytes;
 use ir_model::{Object, Outcome, Value};
 use ir_types::{OutOfMemory, Ty};
-use itoa::Buffer;
 use std::alloc::{AllocError, Global};
+use vx_digits::{push_decimal, push_lane};
 use vx_num::Lane;
-
-/// A number without a sign.
-fn push_decimal(out: &mut Vec<u8>, n: u64) -> Result<(), AllocError>
-    ensures { OnOk result (out.new.items ≡ out.old.items ++ decimal n) }
-{
-    let mut buffer = Buffer::new();
-    out.extend_from_slice(buffer.format(n).as_bytes())?;
-    Ok(())
-}
-
-/// A number of `w` bits, read as signed.
-fn push_number(out: &mut Vec<u8>, w: u8, n: u64) -> Result<(), AllocError>
-    ensures { OnOk result (out.new.items ≡ out.old.items ++ outcomes.number_text w n) }
-{
-    if w == 1 {
-        return push_truth(out, n);
-    }
-    if is_small(w, n) {
-        return push_decimal(out, n);
-    }
-    push_negative(out, w, n)
-}
-
-fn push_truth(out: &mut Vec<u8>, n: u64) -> Result<(), AllocError>
-    ensures { OnOk result (out.new.items ≡ out.old.items ++ (if nat_eq n 0 then codes "false" else codes "true")) }
-{
-    if n == 0 {
-        out.extend_from_slice(b"false")?;
-    } else {
-        out.extend_from_slice(b"true")?;
-    }
-    Ok(())
-}
-
-/// Whether a number of `w` bits has no sign bit.
-fn is_small(w: u8, n: u64) -> bool
-    ensures value { result ≡ nat_lt n (2 ^ (w - 1)) }
-    ensures narrow { result ≡ false → w ≤ 64 }
-{
-    if w > 64 {
-        return true;
-    }
-    (n as u128) < 1u128 << w.saturating_sub(1)
-}
-
-fn push_negative(out: &mut Vec<u8>, w: u8, n: u64) -> Result<(), AllocError>
-    requires { w ≤ 64 }
-    ensures { OnOk result (out.new.items ≡ out.old.items ++ (codes "-" ++ decimal (2 ^ w - n))) }
-{
-    let size = (1u128 << w).saturating_sub(n as u128);
-    let mut buffer = Buffer::new();
-    out.extend_from_slice(b"-")?;
-    out.extend_from_slice(buffer.format(size).as_bytes())?;
-    Ok(())
-}
-
-/// A lane of `w` bits.
-fn push_lane(out: &mut Vec<u8>, w: u8, lane: Lane) -> Result<(), AllocError>
-    ensures { OnOk result (out.new.items ≡ out.old.items ++ outcomes.lane_text w lane) }
-{
-    match lane {
-        None => out.extend_from_slice(b"poison")?,
-        Some(n) => push_number(out, w, n)?,
-    }
-    Ok(())
-}
 
 /// Lanes behind the first.
 fn push_more_lanes(out: &mut Vec<u8>, w: u8, lanes: &[Lane]) -> Result<(), AllocError>

@@ -2,7 +2,7 @@
 use Rattle.std.proofs.Common.{◌≤◌, ◌<◌, ◌-◌, ◌^◌, arith, sym}
 use Rattle.std.proofs.Math.Pow.{pow_mono}
 use Rattle.std.proofs.lemmas.Bool.{lt-ltb}
-use Rattle.ir_print.proofs.number.is_small.Goals as goal
+use Rattle.vx_digits.proofs.writing.is_small.Goals as goal
 
 pub returns-then-w-gt64-clause-value : goal.returns-then-w-gt64-clause-value
 returns-then-w-gt64-clause-value c =
