@@ -1,5 +1,6 @@
 -- The trees of parts: what a tree reads is spelled by a form, and what a form spells is read as that form.
 use Rattle.std.proofs.Common.{◌≡◌, ℕ, false, ◌⊎◌, inl, inr, List, [], ◌∷◌, Option, Some, None, refl, sym, ◌∙◌, ap, subst, codes}
+use Rattle.vx_num.specs.Keywords.{pred_word}
 use Rattle.vx_digits.specs.Numbers.{number_of, one_more}
 use Rattle.vx_num.specs.declared.operations.BinOp.TheVariants as bin
 use Rattle.vx_num.specs.declared.operations.CastOp.TheVariants as cast
@@ -19,7 +20,7 @@ use Rattle.ir_line.specs.declared.line.Line.{Line}
 use Rattle.ir_line.specs.declared.written.Arg.{Arg}
 use Rattle.ir_lex.specs.Bytes.{begins_name}
 use Rattle.ir_line.specs.Kinds.{bits_of}
-use Rattle.ir_line.specs.Values.{width_of, decimal_of, bits_number, local_of, label_of, opcode_word, opcodes, opcode_of, act_word, acts, act_of, pred_word, preds, pred_of}
+use Rattle.ir_line.specs.Values.{width_of, decimal_of, bits_number, local_of, label_of, opcode_word, opcodes, opcode_of, act_word, acts, act_of, preds, pred_of}
 use Rattle.ir_line.specs.Words.{Words, one, expect, is_first}
 use Rattle.ir_line.specs.Reading.{labelled_at, also_at, target_at, case_at}
 use Rattle.ir_line.specs.Pieces as pieces

@@ -2,6 +2,7 @@
 -- that follow. A part that may be absent says which word does not follow.
 use Rattle.std.specs.Prelude.{◌≡◌, ℕ, ◌+◌, ◌*◌, true, false, Option, Some, None, List, [], ◌∷◌, ◌++◌, codes, length, replicate}
 use Rattle.std.specs.List.{list_all}
+use Rattle.vx_num.specs.Keywords.{pred_word}
 use Rattle.vx_digits.specs.Numbers.{number_of}
 use Rattle.vx_num.specs.declared.operations.Pred.{Pred}
 use Rattle.ir_types.specs.declared.ty.Ty.{Ty}
@@ -17,7 +18,7 @@ use Rattle.ir_line.specs.declared.written.Written.TheVariants.{Local, Symbol, Li
 use Rattle.ir_line.specs.declared.written.Arg.{Arg}
 use Rattle.ir_line.specs.declared.pairs.Incoming.{Incoming}
 use Rattle.ir_line.specs.Kinds.{fits, is_pointer, bits_of, lanes_of}
-use Rattle.ir_line.specs.Values.{width_of, align_of, bits_number, lane_of, local_of, symbol_of, label_of, opcode_word, act_word, pred_word}
+use Rattle.ir_line.specs.Values.{width_of, align_of, bits_number, lane_of, local_of, symbol_of, label_of, opcode_word, act_word}
 use Rattle.ir_line.specs.Words.{Words, is_first}
 use Rattle.ir_line.specs.Reading.{allows, is_distinct, is_row, are_entries, length_of, item_of, put, both}
 

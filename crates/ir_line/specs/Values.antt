@@ -12,6 +12,7 @@ use Rattle.vx_num.specs.declared.operations.Pred.{Pred}
 use Rattle.vx_num.specs.declared.operations.Pred.TheVariants.{Eq, Ne, Ugt, Uge, Ult, Ule, Sgt, Sge, Slt, Sle}
 use Rattle.vx_num.specs.declared.operations.CastOp.{CastOp}
 use Rattle.vx_num.specs.declared.operations.CastOp.TheVariants.{Zext, Sext, Trunc}
+use Rattle.vx_num.specs.Keywords.{bin_word, cast_word, pred_word}
 use Rattle.ir_line.specs.declared.opcode.Opcode.{Opcode}
 use Rattle.ir_line.specs.declared.opcode.Opcode.TheVariants.{Bin, Cast, Icmp, Select, Extract, Insert, Shuffle, Gep, Load, Alloca, Phi}
 use Rattle.ir_line.specs.declared.opcode.Act.{Act}
@@ -79,26 +80,6 @@ unfoldable pub label_of : List ℕ → Option (List ℕ)
 label_of [] = None
 label_of (b ∷ bs) = cond (begins_name b) (Some (b ∷ bs)) (when (list_all is_ascii_digit (b ∷ bs)) (plain_number (b ∷ bs)))
 
-abbrev pub bin_word : BinOp → List ℕ
-bin_word Add = codes "add"
-bin_word Sub = codes "sub"
-bin_word Mul = codes "mul"
-bin_word Shl = codes "shl"
-bin_word Udiv = codes "udiv"
-bin_word Sdiv = codes "sdiv"
-bin_word Urem = codes "urem"
-bin_word Srem = codes "srem"
-bin_word Lshr = codes "lshr"
-bin_word Ashr = codes "ashr"
-bin_word And = codes "and"
-bin_word Or = codes "or"
-bin_word Xor = codes "xor"
-
-abbrev pub cast_word : CastOp → List ℕ
-cast_word Zext = codes "zext"
-cast_word Sext = codes "sext"
-cast_word Trunc = codes "trunc"
-
 -- the words of operations that have a result
 abbrev pub opcode_word : Opcode → List ℕ
 opcode_word (Bin op) = bin_word op
@@ -139,19 +120,7 @@ acts = Store ∷ Ret ∷ Br ∷ Switch ∷ Unreachable ∷ []
 unfoldable pub act_of : List ℕ → Option Act
 act_of t = by_word act_word acts t
 
--- the words of comparisons
-abbrev pub pred_word : Pred → List ℕ
-pred_word Eq = codes "eq"
-pred_word Ne = codes "ne"
-pred_word Ugt = codes "ugt"
-pred_word Uge = codes "uge"
-pred_word Ult = codes "ult"
-pred_word Ule = codes "ule"
-pred_word Sgt = codes "sgt"
-pred_word Sge = codes "sge"
-pred_word Slt = codes "slt"
-pred_word Sle = codes "sle"
-
+-- the comparisons
 abbrev pub preds : List Pred
 preds = Eq ∷ Ne ∷ Ugt ∷ Uge ∷ Ult ∷ Ule ∷ Sgt ∷ Sge ∷ Slt ∷ Sle ∷ []
 

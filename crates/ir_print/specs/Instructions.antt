@@ -10,6 +10,7 @@ use Rattle.vx_num.specs.declared.operations.Pred.TheVariants.{Eq, Ne, Ugt, Uge, 
 use Rattle.vx_num.specs.declared.operations.CastOp.{CastOp}
 use Rattle.vx_num.specs.declared.operations.CastOp.TheVariants.{Zext, Sext, Trunc}
 use Rattle.vx_num.specs.declared.operations.Flags.{Flags}
+use Rattle.vx_num.specs.Keywords.{bin_word, cast_word, pred_word}
 use Rattle.ir_types.specs.declared.ty.Ty.{Ty}
 use Rattle.ir_types.specs.declared.ty.Ty.TheVariants.{Void, Int, Ptr, Row}
 use Rattle.ir_types.specs.declared.ty.Elem.{Elem}
@@ -20,40 +21,6 @@ use Rattle.ir_types.specs.declared.inst.Inst.{Inst}
 use Rattle.ir_print.specs.Literals.{ty_text, elem_text, vector_text}
 use Rattle.ir_print.specs.Names.{Names, local_of, is_store, is_void}
 use Rattle.ir_print.specs.Operands.{spaced, local_text, bare_at, typed_at, ty_at, opd_text, opd_ty, typed_text, block_text, label_text}
-
--- the words of operations
-
-abbrev pub bin_word : BinOp → List ℕ
-bin_word Add = codes "add"
-bin_word Sub = codes "sub"
-bin_word Mul = codes "mul"
-bin_word Shl = codes "shl"
-bin_word Udiv = codes "udiv"
-bin_word Sdiv = codes "sdiv"
-bin_word Urem = codes "urem"
-bin_word Srem = codes "srem"
-bin_word Lshr = codes "lshr"
-bin_word Ashr = codes "ashr"
-bin_word And = codes "and"
-bin_word Or = codes "or"
-bin_word Xor = codes "xor"
-
-abbrev pub pred_word : Pred → List ℕ
-pred_word Eq = codes "eq"
-pred_word Ne = codes "ne"
-pred_word Ugt = codes "ugt"
-pred_word Uge = codes "uge"
-pred_word Ult = codes "ult"
-pred_word Ule = codes "ule"
-pred_word Sgt = codes "sgt"
-pred_word Sge = codes "sge"
-pred_word Slt = codes "slt"
-pred_word Sle = codes "sle"
-
-abbrev pub cast_word : CastOp → List ℕ
-cast_word Zext = codes "zext"
-cast_word Sext = codes "sext"
-cast_word Trunc = codes "trunc"
 
 -- a word behind a space, where its flag is set
 abbrev pub flag_text : Bool → List ℕ → List ℕ

@@ -3,6 +3,7 @@
 //! Each puts what stands behind the result, behind what is written already. Want of memory is the only failure.
 
 ghost use Rattle.std.specs.Prelude.{◌≡◌, ◌++◌, OnOk, codes, true};
+ghost use Rattle.vx_num.specs.Keywords as keywords;
 ghost use Rattle.ir_print.specs.Instructions as instructions;
 
 use crate::names::Names;
@@ -14,7 +15,7 @@ use vx_digits::push_decimal;
 use vx_num::{BinOp, CastOp, Flags, Lane, Pred};
 
 fn bin_word(op: BinOp) -> &'static [u8]
-    ensures { result.now ≡ instructions.bin_word op }
+    ensures { result.now ≡ keywords.bin_word op }
 {
     match op {
         BinOp::Add => b"add",
@@ -34,7 +35,7 @@ fn bin_word(op: BinOp) -> &'static [u8]
 }
 
 fn pred_word(pred: Pred) -> &'static [u8]
-    ensures { result.now ≡ instructions.pred_word pred }
+    ensures { result.now ≡ keywords.pred_word pred }
 {
     match pred {
         Pred::Eq => b"eq",
@@ -51,7 +52,7 @@ fn pred_word(pred: Pred) -> &'static [u8]
 }
 
 fn cast_word(op: CastOp) -> &'static [u8]
-    ensures { result.now ≡ instructions.cast_word op }
+    ensures { result.now ≡ keywords.cast_word op }
 {
     match op {
         CastOp::Zext => b"zext",

@@ -1,6 +1,7 @@
 -- Operations on two numbers, and comparisons, as they are printed.
 use Rattle.std.proofs.Common.{◌≡◌, ℕ, ◌<◌, ◌⊎◌, inl, inr, Bool, true, false, ◌||◌, arith, eq-eqb, List, [], ◌∷◌, ◌++◌, map, nat_lt, Option, Some, refl, sym, ◌∙◌, codes, append_assoc}
 use Rattle.std.proofs.lemmas.Bool.Decides.{nat_tests}
+use Rattle.vx_num.specs.Keywords.{bin_word, cast_word, pred_word}
 use Rattle.vx_num.specs.declared.operations.BinOp.{BinOp}
 use Rattle.vx_num.specs.declared.operations.BinOp.TheVariants as bin
 use Rattle.vx_num.specs.declared.operations.CastOp.{CastOp}
@@ -19,7 +20,6 @@ use Rattle.ir_lex.specs.Scan.{texts}
 use Rattle.ir_lex.proofs.Again.{stops}
 use Rattle.ir_lex.proofs.Classes.{clash}
 use Rattle.ir_line.specs.Kinds.{is_integer, is_vector as is_row_ty, is_cast, bits_of, fits}
-use Rattle.ir_line.specs.Values.{bin_word as read_bin, cast_word as read_cast, pred_word as read_pred}
 use Rattle.ir_line.specs.Pieces.{Comparison}
 use Rattle.ir_line.specs.Forms as forms
 use Rattle.ir_line.specs.Forms.{slots, truth_of, cast_kind}
@@ -27,7 +27,7 @@ use Rattle.ir_print.specs.declared.names.Local.{Local}
 use Rattle.ir_print.specs.Names.{Names, local_of, is_void}
 use Rattle.ir_print.specs.Literals.{ty_text}
 use Rattle.ir_print.specs.Operands.{opd_text, typed_text}
-use Rattle.ir_print.specs.Instructions.{act_text, bin_word, cast_word, pred_word}
+use Rattle.ir_print.specs.Instructions.{act_text}
 use Rattle.rf_text.specs.Shown.{Shown, Fits, shown_ty}
 use Rattle.rf_text.specs.Printed.{IsReadAgain}
 use Rattle.rf_text.specs.Written.{written}
@@ -59,24 +59,9 @@ begins_ty t rest value stop = ty_begins ((ty_cut t value).takes rest stop)
 begins_typed : (ns : Names) (gs : List (List ℕ)) (t : Ty) (o : Opd) (rest : List ℕ) → is_value t ≡ true → Operand ns gs t o → BeginsPlain (texts (typed_text ns gs o ++ rest))
 begins_typed ns gs t o rest value is = rw (is.type, append_assoc (ty_text t) (32 ∷ opd_text ns gs o) rest) (begins_ty t (32 ∷ (opd_text ns gs o ++ rest)) value (space_stops (opd_text ns gs o ++ rest)))
 
--- keywords are printed as they are read
+-- keywords are one run
 
-bin_same : (op : BinOp) → bin_word op ≡ read_bin op
-bin_same bin.Add = refl
-bin_same bin.Sub = refl
-bin_same bin.Mul = refl
-bin_same bin.Shl = refl
-bin_same bin.Udiv = refl
-bin_same bin.Sdiv = refl
-bin_same bin.Urem = refl
-bin_same bin.Srem = refl
-bin_same bin.Lshr = refl
-bin_same bin.Ashr = refl
-bin_same bin.And = refl
-bin_same bin.Or = refl
-bin_same bin.Xor = refl
-
-bin_run : (op : BinOp) → is_run (read_bin op) ≡ true
+bin_run : (op : BinOp) → is_run (bin_word op) ≡ true
 unfolding is_word_byte begins_name
 bin_run bin.Add = refl
 bin_run bin.Sub = refl
@@ -92,19 +77,7 @@ bin_run bin.And = refl
 bin_run bin.Or = refl
 bin_run bin.Xor = refl
 
-pred_same : (p : Pred) → pred_word p ≡ read_pred p
-pred_same pred.Eq = refl
-pred_same pred.Ne = refl
-pred_same pred.Ugt = refl
-pred_same pred.Uge = refl
-pred_same pred.Ult = refl
-pred_same pred.Ule = refl
-pred_same pred.Sgt = refl
-pred_same pred.Sge = refl
-pred_same pred.Slt = refl
-pred_same pred.Sle = refl
-
-pred_run : (p : Pred) → is_run (read_pred p) ≡ true
+pred_run : (p : Pred) → is_run (pred_word p) ≡ true
 unfolding is_word_byte begins_name
 pred_run pred.Eq = refl
 pred_run pred.Ne = refl
@@ -117,12 +90,7 @@ pred_run pred.Sge = refl
 pred_run pred.Slt = refl
 pred_run pred.Sle = refl
 
-cast_same : (op : CastOp) → cast_word op ≡ read_cast op
-cast_same cast.Zext = refl
-cast_same cast.Sext = refl
-cast_same cast.Trunc = refl
-
-cast_run : (op : CastOp) → is_run (read_cast op) ≡ true
+cast_run : (op : CastOp) → is_run (cast_word op) ≡ true
 unfolding is_word_byte begins_name
 cast_run cast.Zext = refl
 cast_run cast.Sext = refl
@@ -136,8 +104,8 @@ truth_same Ptr h = clash false refl h
 truth_same (Row n w) h = refl
 
 -- a comparison begins with no flag
-begins_pred : (p : Pred) (rest : List ℕ) → stops rest ≡ true → BeginsPlain (texts (read_pred p ++ rest))
-begins_pred p rest stop = rw (run_texts (read_pred p) rest (pred_run p) stop) (Begins (read_pred p) (texts rest) (pred_no_flag p))
+begins_pred : (p : Pred) (rest : List ℕ) → stops rest ≡ true → BeginsPlain (texts (pred_word p ++ rest))
+begins_pred p rest stop = rw (run_texts (pred_word p) rest (pred_run p) stop) (Begins (pred_word p) (texts rest) (pred_no_flag p))
 
 -- the types of a conversion
 
@@ -189,7 +157,6 @@ module _ (ns : Names) (gs : List (List ℕ)) (shown : Shown ns gs) (ret : Ty) (i
   unfolding is_word_byte begins_name
   bin_told x op f a b named number is js =
       let value : is_value ty ≡ true = number_value ty number in
-      rw (bin_same op)
       (told_result x named (told_code _ (bin_run op) ((bin_flags_text op f).stopped _)
       (told_flags _ _ (bin_refuses op) (bin_flags_text op f) (begins_ty ty _ value refl) (told_part _ _ (kind_cut _ ty value (number_test ty number)) refl (told_space (told_two ns gs ty a b is js))))))
 
@@ -208,10 +175,10 @@ module _ (ns : Names) (gs : List (List ℕ)) (shown : Shown ns gs) (ret : Ty) (i
   unfolding is_word_byte begins_name
   icmp_told x p u a b named number is js =
       let value : is_value u ≡ true = number_value u number in
-      rw (pred_same p, is.type)
+      rw (is.type)
       (told_result x named (told_code _ refl refl
       (told_flags _ _ {bs = []} (λ w n. n.samesign) (no_flags _) (begins_pred p _ refl)
-      (told_part Comparison p (word_cut (read_pred p) (pred_run p)) refl (told_space (told_part _ _ (kind_cut _ u value (number_test u number)) refl (told_space (told_two ns gs u a b is js))))))))
+      (told_part Comparison p (word_cut (pred_word p) (pred_run p)) refl (told_space (told_part _ _ (kind_cut _ u value (number_test u number)) refl (told_space (told_two ns gs u a b is js))))))))
 
   pub icmp_line : (p : Pred) (os : List Opd) → Fits ret ns gs (inst id name ty (ops.Icmp p) os) → IsReadAgain ns gs (inst id name ty (ops.Icmp p) os)
   icmp_line p os fits =
@@ -235,7 +202,6 @@ module _ (ns : Names) (gs : List (List ℕ)) (shown : Shown ns gs) (ret : Ty) (i
   unfolding is_word_byte begins_name
   cast_told x op nneg u a named one two fit only is =
       let from : is_value u ≡ true = number_value u one in
-      rw (cast_same op)
       (told_result x named (told_code _ (cast_run op) ((cast_flags_text op nneg only).stopped _)
       (told_flags _ _ (cast_refuses op) (cast_flags_text op nneg only) (begins_typed ns gs u a _ from is)
       (told_typed ns gs _ u a from (number_test u one) is refl (told_space (told_word (codes "to") refl refl (told_space (told_last _ _ (kind_cut _ ty (number_value ty two) fit)))))))))

@@ -1,6 +1,7 @@
 -- Flags as they are printed are read again, and no type or comparison behind them is read as one more.
 use Rattle.std.proofs.Common.{◌≡◌, ℕ, ◌⊎◌, inl, inr, Bool, true, false, not, ◌&&◌, List, [], ◌∷◌, ◌++◌, Some, None, refl, ◌∙◌, ap, subst, codes, bytes_eq}
 use Rattle.std.specs.List.{list_all}
+use Rattle.vx_num.specs.Keywords.{pred_word}
 use Rattle.vx_num.specs.declared.operations.BinOp.{BinOp}
 use Rattle.vx_num.specs.declared.operations.BinOp.TheVariants as bin
 use Rattle.vx_num.specs.declared.operations.CastOp.{CastOp}
@@ -15,7 +16,7 @@ use Rattle.ir_lex.specs.Scan.{texts}
 use Rattle.ir_lex.proofs.Again.{stops, texts_space}
 use Rattle.ir_lex.proofs.Classes.{clash}
 use Rattle.ir_line.specs.Words.{Words}
-use Rattle.ir_line.specs.Values.{width_of, pred_word}
+use Rattle.ir_line.specs.Values.{width_of}
 use Rattle.ir_line.specs.Reading.{allows, has, is_distinct}
 use Rattle.ir_line.specs.Pieces.{Takes, Flags, SpellsFlags, SpellsTy}
 use Rattle.ir_line.specs.Pieces as pieces

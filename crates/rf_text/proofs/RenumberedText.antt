@@ -1,5 +1,6 @@
 -- The text of a module does not tell its ids: with its ids given anew the text is the same.
 use Rattle.std.proofs.Common.{◌≡◌, refl, ap, ◌∙◌, ℕ, zero, suc, ◌+◌, Bool, true, false, Option, None, Some, List, [], ◌∷◌, ◌++◌, map, slice_get, option_map, if◌then◌else◌, codes}
+use Rattle.vx_num.specs.Keywords as keywords
 use Rattle.ir_types.specs.declared.id.Id.{Id}
 use Rattle.ir_types.specs.declared.ty.Ty.{Ty}
 use Rattle.ir_types.specs.declared.opd.Opd.{Opd}
@@ -234,11 +235,11 @@ module _ (ids : List Id) where
     -- ---- all forms
 
     acts_same : (op : Op) (ty : Ty) (os : List Opd) → Every (OpdIn ids) os → text.act_text now gs op ty (map (new_opd ids) os) ≡ text.act_text before gs op ty os
-    acts_same (Bin op f) ty os h = ap (λ t. text.bin_word op ++ (text.flags_text op f ++ (codes " " ++ (ty_text ty ++ (codes " " ++ t))))) (two os h)
+    acts_same (Bin op f) ty os h = ap (λ t. keywords.bin_word op ++ (text.flags_text op f ++ (codes " " ++ (ty_text ty ++ (codes " " ++ t))))) (two os h)
     acts_same (Icmp p) ty os h =
-        ap (λ t. codes "icmp " ++ (text.pred_word p ++ (codes " " ++ (t ++ (codes " " ++ text.two_text now gs (map (new_opd ids) os)))))) (types os h 0)
-        ∙ ap (λ t. codes "icmp " ++ (text.pred_word p ++ (codes " " ++ (ty_at before (slice_get os 0) ++ (codes " " ++ t))))) (two os h)
-    acts_same (Cast op nneg) ty os h = ap (λ t. text.cast_word op ++ (text.flag_text nneg (codes "nneg") ++ (codes " " ++ (t ++ (codes " to " ++ ty_text ty))))) (typed os h 0)
+        ap (λ t. codes "icmp " ++ (keywords.pred_word p ++ (codes " " ++ (t ++ (codes " " ++ text.two_text now gs (map (new_opd ids) os)))))) (types os h 0)
+        ∙ ap (λ t. codes "icmp " ++ (keywords.pred_word p ++ (codes " " ++ (ty_at before (slice_get os 0) ++ (codes " " ++ t))))) (two os h)
+    acts_same (Cast op nneg) ty os h = ap (λ t. keywords.cast_word op ++ (text.flag_text nneg (codes "nneg") ++ (codes " " ++ (t ++ (codes " to " ++ ty_text ty))))) (typed os h 0)
     acts_same Select ty os h = ap (λ t. codes "select " ++ t) (three_typed os h)
     acts_same Extract ty os h = ap (λ t. codes "extractelement " ++ t) (two_typed os h)
     acts_same Insert ty os h = ap (λ t. codes "insertelement " ++ t) (three_typed os h)

@@ -8,3 +8,4 @@ pub mod Cmp
 pub mod Cast
 pub mod Advance
 pub mod Refines
+pub mod Keywords
