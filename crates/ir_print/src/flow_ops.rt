@@ -7,40 +7,39 @@ ghost use Rattle.ir_print.specs.Instructions as instructions;
 ghost use Rattle.ir_print.specs.Operands.{label_text};
 
 use crate::names::Names;
+use crate::scope::Scope;
 use crate::number::push_ty;
 use crate::operand::{
     push_bare_at, push_block, push_label, push_opd, push_spaced, push_typed, push_typed_at, ty_of,
 };
-use ir_types::{Bytes, Opd, Ty};
+use ir_types::{Bytes, CallSite, Opd, Ty};
 use std::alloc::AllocError;
 use vx_digits::{push_decimal, push_lane};
 use vx_num::Lane;
 
 fn push_pair(
     out: &mut Vec<u8>,
-    names: &Names,
-    globals: &[Bytes],
+    scope: &Scope,
     opd: &Opd,
     block: u32,
 ) -> Result<(), AllocError>
-    ensures { OnOk result (out.new.items ≡ out.old.items ++ instructions.pair_text names.now globals.now opd.now block) }
+    ensures { OnOk result (out.new.items ≡ out.old.items ++ instructions.pair_text scope.now.names.now scope.now.globals.now opd.now block) }
 {
     out.extend_from_slice(b"[ ")?;
-    push_opd(out, names, globals, opd)?;
+    push_opd(out, scope, opd)?;
     out.extend_from_slice(b", ")?;
-    push_block(out, names, block)?;
+    push_block(out, scope.names, block)?;
     out.extend_from_slice(b" ]")?;
     Ok(())
 }
 
 fn push_more_pairs(
     out: &mut Vec<u8>,
-    names: &Names,
-    globals: &[Bytes],
+    scope: &Scope,
     opds: &[Opd],
     blocks: &[u32],
 ) -> Result<(), AllocError>
-    ensures { OnOk result (out.new.items ≡ out.old.items ++ instructions.more_pairs names.now globals.now opds.now blocks.now) }
+    ensures { OnOk result (out.new.items ≡ out.old.items ++ instructions.more_pairs scope.now.names.now scope.now.globals.now opds.now blocks.now) }
 {
     let mut from = blocks;
     for opd in opds {
@@ -48,7 +47,7 @@ fn push_more_pairs(
             [] => return Ok(()),
             [block, more_from @ ..] => {
                 out.extend_from_slice(b", ")?;
-                push_pair(out, names, globals, opd, *block)?;
+                push_pair(out, scope, opd, *block)?;
                 from = more_from;
             }
         }
@@ -58,17 +57,16 @@ fn push_more_pairs(
 
 fn push_pairs(
     out: &mut Vec<u8>,
-    names: &Names,
-    globals: &[Bytes],
+    scope: &Scope,
     opds: &[Opd],
     blocks: &[u32],
 ) -> Result<(), AllocError>
-    ensures { OnOk result (out.new.items ≡ out.old.items ++ instructions.pairs_text names.now globals.now opds.now blocks.now) }
+    ensures { OnOk result (out.new.items ≡ out.old.items ++ instructions.pairs_text scope.now.names.now scope.now.globals.now opds.now blocks.now) }
 {
     match (opds, blocks) {
         ([opd, more_operands @ ..], [block, more_from @ ..]) => {
-            push_pair(out, names, globals, opd, *block)?;
-            push_more_pairs(out, names, globals, more_operands, more_from)?;
+            push_pair(out, scope, opd, *block)?;
+            push_more_pairs(out, scope, more_operands, more_from)?;
             Ok(())
         }
         _ => Ok(()),
@@ -78,29 +76,27 @@ fn push_pairs(
 /// A `phi`.
 pub(crate) fn push_phi(
     out: &mut Vec<u8>,
-    names: &Names,
-    globals: &[Bytes],
+    scope: &Scope,
     blocks: &[u32],
     ty: Ty,
     opds: &[Opd],
 ) -> Result<(), AllocError>
-    ensures { OnOk result (out.new.items ≡ out.old.items ++ instructions.phi_text names.now globals.now blocks.now ty opds.now) }
+    ensures { OnOk result (out.new.items ≡ out.old.items ++ instructions.phi_text scope.now.names.now scope.now.globals.now blocks.now ty opds.now) }
 {
     out.extend_from_slice(b"phi ")?;
     push_ty(out, ty)?;
     out.extend_from_slice(b" ")?;
-    push_pairs(out, names, globals, opds, blocks)?;
+    push_pairs(out, scope, opds, blocks)?;
     Ok(())
 }
 
 /// A `ret`.
 pub(crate) fn push_ret(
     out: &mut Vec<u8>,
-    names: &Names,
-    globals: &[Bytes],
+    scope: &Scope,
     opds: &[Opd],
 ) -> Result<(), AllocError>
-    ensures { OnOk result (out.new.items ≡ out.old.items ++ instructions.ret_text names.now globals.now (slice_get opds.now 0)) }
+    ensures { OnOk result (out.new.items ≡ out.old.items ++ instructions.ret_text scope.now.names.now scope.now.globals.now (slice_get opds.now 0)) }
 {
     match opds.get(0) {
         None => {
@@ -109,7 +105,7 @@ pub(crate) fn push_ret(
         }
         Some(opd) => {
             out.extend_from_slice(b"ret ")?;
-            push_typed(out, names, globals, opd)?;
+            push_typed(out, scope, opd)?;
             Ok(())
         }
     }
@@ -127,20 +123,19 @@ pub(crate) fn push_br(out: &mut Vec<u8>, names: &Names, to: u32) -> Result<(), A
 /// A `br` on a condition.
 pub(crate) fn push_cond(
     out: &mut Vec<u8>,
-    names: &Names,
-    globals: &[Bytes],
+    scope: &Scope,
     yes: u32,
     no: u32,
     opds: &[Opd],
 ) -> Result<(), AllocError>
-    ensures { OnOk result (out.new.items ≡ out.old.items ++ instructions.cond_text names.now globals.now yes no opds.now) }
+    ensures { OnOk result (out.new.items ≡ out.old.items ++ instructions.cond_text scope.now.names.now scope.now.globals.now yes no opds.now) }
 {
     out.extend_from_slice(b"br i1 ")?;
-    push_bare_at(out, names, globals, opds, 0)?;
+    push_bare_at(out, scope, opds, 0)?;
     out.extend_from_slice(b", ")?;
-    push_label(out, names, yes)?;
+    push_label(out, scope.names, yes)?;
     out.extend_from_slice(b", ")?;
-    push_label(out, names, no)?;
+    push_label(out, scope.names, no)?;
     Ok(())
 }
 
@@ -201,49 +196,46 @@ fn push_cases(
 /// A `switch`, over several lines.
 pub(crate) fn push_switch(
     out: &mut Vec<u8>,
-    names: &Names,
-    globals: &[Bytes],
+    scope: &Scope,
     other: u32,
     cases: &[Lane],
     to: &[u32],
     opds: &[Opd],
 ) -> Result<(), AllocError>
-    ensures { OnOk result (out.new.items ≡ out.old.items ++ instructions.switch_text names.now globals.now other cases.now to.now opds.now) }
+    ensures { OnOk result (out.new.items ≡ out.old.items ++ instructions.switch_text scope.now.names.now scope.now.globals.now other cases.now to.now opds.now) }
 {
     out.extend_from_slice(b"switch ")?;
-    push_typed_at(out, names, globals, opds, 0)?;
+    push_typed_at(out, scope, opds, 0)?;
     out.extend_from_slice(b", ")?;
-    push_label(out, names, other)?;
+    push_label(out, scope.names, other)?;
     out.extend_from_slice(b" [\n")?;
-    push_cases(out, names, switch_width(names, opds), cases, to)?;
+    push_cases(out, scope.names, switch_width(scope.names, opds), cases, to)?;
     out.extend_from_slice(b"  ]")?;
     Ok(())
 }
 
 fn push_argument(
     out: &mut Vec<u8>,
-    names: &Names,
-    globals: &[Bytes],
+    scope: &Scope,
     opd: &Opd,
     attrs: &[u8],
 ) -> Result<(), AllocError>
-    ensures { OnOk result (out.new.items ≡ out.old.items ++ instructions.argument_text names.now globals.now opd.now attrs.now) }
+    ensures { OnOk result (out.new.items ≡ out.old.items ++ instructions.argument_text scope.now.names.now scope.now.globals.now opd.now attrs.now) }
 {
-    push_ty(out, ty_of(names, opd))?;
+    push_ty(out, ty_of(scope.names, opd))?;
     push_spaced(out, attrs)?;
     out.extend_from_slice(b" ")?;
-    push_opd(out, names, globals, opd)?;
+    push_opd(out, scope, opd)?;
     Ok(())
 }
 
 fn push_more_arguments(
     out: &mut Vec<u8>,
-    names: &Names,
-    globals: &[Bytes],
+    scope: &Scope,
     opds: &[Opd],
     attrs: &[Bytes],
 ) -> Result<(), AllocError>
-    ensures { OnOk result (out.new.items ≡ out.old.items ++ instructions.more_arguments names.now globals.now opds.now attrs.now) }
+    ensures { OnOk result (out.new.items ≡ out.old.items ++ instructions.more_arguments scope.now.names.now scope.now.globals.now opds.now attrs.now) }
 {
     let mut texts = attrs;
     for opd in opds {
@@ -251,7 +243,7 @@ fn push_more_arguments(
             [] => return Ok(()),
             [text, more_texts @ ..] => {
                 out.extend_from_slice(b", ")?;
-                push_argument(out, names, globals, opd, text.as_slice())?;
+                push_argument(out, scope, opd, text.as_slice())?;
                 texts = more_texts;
             }
         }
@@ -261,17 +253,16 @@ fn push_more_arguments(
 
 fn push_arguments(
     out: &mut Vec<u8>,
-    names: &Names,
-    globals: &[Bytes],
+    scope: &Scope,
     opds: &[Opd],
     attrs: &[Bytes],
 ) -> Result<(), AllocError>
-    ensures { OnOk result (out.new.items ≡ out.old.items ++ instructions.arguments_text names.now globals.now opds.now attrs.now) }
+    ensures { OnOk result (out.new.items ≡ out.old.items ++ instructions.arguments_text scope.now.names.now scope.now.globals.now opds.now attrs.now) }
 {
     match (opds, attrs) {
         ([opd, more_operands @ ..], [text, more_texts @ ..]) => {
-            push_argument(out, names, globals, opd, text.as_slice())?;
-            push_more_arguments(out, names, globals, more_operands, more_texts)?;
+            push_argument(out, scope, opd, text.as_slice())?;
+            push_more_arguments(out, scope, more_operands, more_texts)?;
             Ok(())
         }
         _ => Ok(()),
@@ -307,23 +298,18 @@ fn push_callee(out: &mut Vec<u8>, pre: &[u8], ty: Ty, callee: &[u8]) -> Result<(
 /// A `call`.
 pub(crate) fn push_call(
     out: &mut Vec<u8>,
-    names: &Names,
-    globals: &[Bytes],
-    tail: &[u8],
-    pre: &[u8],
-    callee: &[u8],
-    attrs: &[Bytes],
-    post: &[u8],
+    scope: &Scope,
+    site: &CallSite,
     ty: Ty,
     opds: &[Opd],
 ) -> Result<(), AllocError>
-    ensures { OnOk result (out.new.items ≡ out.old.items ++ instructions.call_text names.now globals.now
-        tail.now pre.now callee.now attrs.now post.now ty opds.now) }
+    ensures { OnOk result (out.new.items ≡ out.old.items ++ instructions.call_text scope.now.names.now scope.now.globals.now
+        site.now.tail site.now.pre site.now.callee site.now.attrs site.now.post ty opds.now) }
 {
-    push_tail(out, tail)?;
-    push_callee(out, pre, ty, callee)?;
-    push_arguments(out, names, globals, opds, attrs)?;
+    push_tail(out, site.tail.as_slice())?;
+    push_callee(out, site.pre.as_slice(), ty, site.callee.as_slice())?;
+    push_arguments(out, scope, opds, site.attrs.as_slice())?;
     out.extend_from_slice(b")")?;
-    push_spaced(out, post)?;
+    push_spaced(out, site.post.as_slice())?;
     Ok(())
 }

@@ -9,6 +9,7 @@ ghost use Rattle.ir_print.specs.Text as text;
 use crate::form::Shown;
 use crate::inst::push_insts;
 use crate::names::Names;
+use crate::scope::Scope;
 use crate::number::push_ty;
 use crate::operand::{push_local, push_spaced};
 use ir_types::{Block, Bytes, Func, Param};
@@ -104,31 +105,29 @@ fn push_first_label(out: &mut Vec<u8>, name: &Option<Bytes>) -> Result<(), Alloc
 /// A block behind another.
 fn push_next_block(
     out: &mut Vec<u8>,
-    names: &Names,
-    globals: &[Bytes],
+    scope: &Scope,
     at: u32,
     block: &Block,
 ) -> Result<(), AllocError>
-    ensures { OnOk result (out.new.items ≡ out.old.items ++ text.next_block names.now globals.now at block.now) }
+    ensures { OnOk result (out.new.items ≡ out.old.items ++ text.next_block scope.now.names.now scope.now.globals.now at block.now) }
 {
     out.extend_from_slice(b"\n")?;
-    push_label_line(out, names.label(at))?;
-    push_insts(out, names, globals, block.insts.as_slice())?;
+    push_label_line(out, scope.names.label(at))?;
+    push_insts(out, scope, block.insts.as_slice())?;
     Ok(())
 }
 
 /// The blocks behind the first, of which the first has this number.
 fn push_more_blocks(
     out: &mut Vec<u8>,
-    names: &Names,
-    globals: &[Bytes],
+    scope: &Scope,
     blocks: &[Block],
 ) -> Result<(), AllocError>
-    ensures { OnOk result (out.new.items ≡ out.old.items ++ text.more_blocks names.now globals.now 1 blocks.now) }
+    ensures { OnOk result (out.new.items ≡ out.old.items ++ text.more_blocks scope.now.names.now scope.now.globals.now 1 blocks.now) }
 {
     let mut at = 1u32;
     for block in blocks {
-        push_next_block(out, names, globals, at, block)?;
+        push_next_block(out, scope, at, block)?;
         at = at.checked_add(1).ok_or(AllocError)?;
     }
     Ok(())
@@ -136,35 +135,35 @@ fn push_more_blocks(
 
 fn push_blocks(
     out: &mut Vec<u8>,
-    names: &Names,
-    globals: &[Bytes],
+    scope: &Scope,
     blocks: &[Block],
 ) -> Result<(), AllocError>
-    ensures { OnOk result (out.new.items ≡ out.old.items ++ text.blocks_text names.now globals.now blocks.now) }
+    ensures { OnOk result (out.new.items ≡ out.old.items ++ text.blocks_text scope.now.names.now scope.now.globals.now blocks.now) }
 {
     match blocks {
         [] => Ok(()),
         [first, rest @ ..] => {
             push_first_label(out, &first.name)?;
-            push_insts(out, names, globals, first.insts.as_slice())?;
-            push_more_blocks(out, names, globals, rest)?;
+            push_insts(out, scope, first.insts.as_slice())?;
+            push_more_blocks(out, scope, rest)?;
             Ok(())
         }
     }
 }
 
 /// A function.
-pub(crate) fn push_func(
+pub(crate) fn push_func<'a>(
     alloc: Global,
     out: &mut Vec<u8>,
-    globals: &[Bytes],
-    func: &Func,
+    globals: &'a [Bytes],
+    func: &'a Func,
 ) -> Result<(), AllocError>
     ensures { OnOk result (out.new.items ≡ out.old.items ++ text.func_text globals.now func.now) }
 {
     let names = Names::of(alloc, func)?;
     push_header(out, &names, func)?;
-    push_blocks(out, &names, globals, func.blocks.as_slice())?;
+    let scope = Scope { names: &names, globals };
+    push_blocks(out, &scope, func.blocks.as_slice())?;
     out.extend_from_slice(b"}\n")?;
     Ok(())
 }

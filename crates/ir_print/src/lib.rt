@@ -14,6 +14,7 @@ mod module;
 mod names;
 mod number;
 mod operand;
+mod scope;
 mod shown;
 mod value_ops;
 

@@ -5,25 +5,24 @@
 ghost use Rattle.std.specs.Prelude.{◌≡◌, ◌++◌, OnOk, codes};
 ghost use Rattle.ir_print.specs.Instructions as instructions;
 
-use crate::names::Names;
+use crate::scope::Scope;
 use crate::number::{push_elem, push_ty};
 use crate::operand::{push_bare_at, push_typed};
 use crate::value_ops::push_flag;
-use ir_types::{Bytes, Elem, Opd, Ty};
+use ir_types::{Elem, Opd, Ty};
 use std::alloc::AllocError;
 use vx_digits::push_decimal;
 
 fn push_operands(
     out: &mut Vec<u8>,
-    names: &Names,
-    globals: &[Bytes],
+    scope: &Scope,
     opds: &[Opd],
 ) -> Result<(), AllocError>
-    ensures { OnOk result (out.new.items ≡ out.old.items ++ instructions.indices_text names.now globals.now opds.now) }
+    ensures { OnOk result (out.new.items ≡ out.old.items ++ instructions.indices_text scope.now.names.now scope.now.globals.now opds.now) }
 {
     for opd in opds {
         out.extend_from_slice(b", ")?;
-        push_typed(out, names, globals, opd)?;
+        push_typed(out, scope, opd)?;
     }
     Ok(())
 }
@@ -41,16 +40,15 @@ fn push_stepped(out: &mut Vec<u8>, elem: Elem, inbounds: bool) -> Result<(), All
 /// A `getelementptr`.
 pub(crate) fn push_gep(
     out: &mut Vec<u8>,
-    names: &Names,
-    globals: &[Bytes],
+    scope: &Scope,
     elem: Elem,
     inbounds: bool,
     opds: &[Opd],
 ) -> Result<(), AllocError>
-    ensures { OnOk result (out.new.items ≡ out.old.items ++ instructions.gep_text names.now globals.now elem inbounds opds.now) }
+    ensures { OnOk result (out.new.items ≡ out.old.items ++ instructions.gep_text scope.now.names.now scope.now.globals.now elem inbounds opds.now) }
 {
     push_stepped(out, elem, inbounds)?;
-    push_operands(out, names, globals, opds)?;
+    push_operands(out, scope, opds)?;
     Ok(())
 }
 
@@ -66,18 +64,17 @@ fn push_align(out: &mut Vec<u8>, align: u64) -> Result<(), AllocError>
 /// A `load`.
 pub(crate) fn push_load(
     out: &mut Vec<u8>,
-    names: &Names,
-    globals: &[Bytes],
+    scope: &Scope,
     align: u64,
     ty: Ty,
     opds: &[Opd],
 ) -> Result<(), AllocError>
-    ensures { OnOk result (out.new.items ≡ out.old.items ++ instructions.load_text names.now globals.now align ty opds.now) }
+    ensures { OnOk result (out.new.items ≡ out.old.items ++ instructions.load_text scope.now.names.now scope.now.globals.now align ty opds.now) }
 {
     out.extend_from_slice(b"load ")?;
     push_ty(out, ty)?;
     out.extend_from_slice(b", ptr ")?;
-    push_bare_at(out, names, globals, opds, 0)?;
+    push_bare_at(out, scope, opds, 0)?;
     push_align(out, align)?;
     Ok(())
 }
@@ -85,20 +82,19 @@ pub(crate) fn push_load(
 /// A `store`.
 pub(crate) fn push_store(
     out: &mut Vec<u8>,
-    names: &Names,
-    globals: &[Bytes],
+    scope: &Scope,
     align: u64,
     ty: Ty,
     opds: &[Opd],
 ) -> Result<(), AllocError>
-    ensures { OnOk result (out.new.items ≡ out.old.items ++ instructions.store_text names.now globals.now align ty opds.now) }
+    ensures { OnOk result (out.new.items ≡ out.old.items ++ instructions.store_text scope.now.names.now scope.now.globals.now align ty opds.now) }
 {
     out.extend_from_slice(b"store ")?;
     push_ty(out, ty)?;
     out.extend_from_slice(b" ")?;
-    push_bare_at(out, names, globals, opds, 0)?;
+    push_bare_at(out, scope, opds, 0)?;
     out.extend_from_slice(b", ptr ")?;
-    push_bare_at(out, names, globals, opds, 1)?;
+    push_bare_at(out, scope, opds, 1)?;
     push_align(out, align)?;
     Ok(())
 }

@@ -1,6 +1,6 @@
 //! Operands and labels, put behind what is written already.
 //!
-//! `names` are those of the function, `globals` those of the module. Want of memory is the only failure, and may leave a part of
+//! Want of memory is the only failure, and may leave a part of
 //! the text behind.
 
 ghost use Rattle.std.specs.Prelude.{◌≡◌, ◌++◌, OnOk, codes, slice_get};
@@ -9,6 +9,7 @@ ghost use Rattle.ir_print.specs.Names.{local_of};
 ghost use Rattle.ir_print.specs.Operands as operands;
 
 use crate::names::Names;
+use crate::scope::Scope;
 use crate::number::{push_literal, push_ty};
 use ir_types::{Bytes, Id, Opd, Ty};
 use std::alloc::AllocError;
@@ -57,16 +58,15 @@ fn push_global(out: &mut Vec<u8>, globals: &[Bytes], global: u32) -> Result<(), 
 /// An operand.
 pub(crate) fn push_opd(
     out: &mut Vec<u8>,
-    names: &Names,
-    globals: &[Bytes],
+    scope: &Scope,
     opd: &Opd,
 ) -> Result<(), AllocError>
-    ensures { OnOk result (out.new.items ≡ out.old.items ++ operands.opd_text names.now globals.now opd.now) }
+    ensures { OnOk result (out.new.items ≡ out.old.items ++ operands.opd_text scope.now.names.now scope.now.globals.now opd.now) }
 {
     match opd {
-        Opd::Val(id) => push_local(out, names, *id),
+        Opd::Val(id) => push_local(out, scope.names, *id),
         Opd::Lit(literal) => push_literal(out, literal),
-        Opd::Sym(global) => push_global(out, globals, *global),
+        Opd::Sym(global) => push_global(out, scope.globals, *global),
     }
 }
 
@@ -93,47 +93,44 @@ fn ty_of_local(names: &Names, id: Id) -> Ty
 /// An operand behind its type.
 pub(crate) fn push_typed(
     out: &mut Vec<u8>,
-    names: &Names,
-    globals: &[Bytes],
+    scope: &Scope,
     opd: &Opd,
 ) -> Result<(), AllocError>
-    ensures { OnOk result (out.new.items ≡ out.old.items ++ operands.typed_text names.now globals.now opd.now) }
+    ensures { OnOk result (out.new.items ≡ out.old.items ++ operands.typed_text scope.now.names.now scope.now.globals.now opd.now) }
 {
-    push_ty(out, ty_of(names, opd))?;
+    push_ty(out, ty_of(scope.names, opd))?;
     out.extend_from_slice(b" ")?;
-    push_opd(out, names, globals, opd)?;
+    push_opd(out, scope, opd)?;
     Ok(())
 }
 
 /// The operand of a slot, if there is one.
 pub(crate) fn push_bare_at(
     out: &mut Vec<u8>,
-    names: &Names,
-    globals: &[Bytes],
+    scope: &Scope,
     opds: &[Opd],
     slot: usize,
 ) -> Result<(), AllocError>
-    ensures { OnOk result (out.new.items ≡ out.old.items ++ operands.bare_at names.now globals.now (slice_get opds.now slot)) }
+    ensures { OnOk result (out.new.items ≡ out.old.items ++ operands.bare_at scope.now.names.now scope.now.globals.now (slice_get opds.now slot)) }
 {
     match opds.get(slot) {
         None => Ok(()),
-        Some(opd) => push_opd(out, names, globals, opd),
+        Some(opd) => push_opd(out, scope, opd),
     }
 }
 
 /// The operand of a slot behind its type, if there is one.
 pub(crate) fn push_typed_at(
     out: &mut Vec<u8>,
-    names: &Names,
-    globals: &[Bytes],
+    scope: &Scope,
     opds: &[Opd],
     slot: usize,
 ) -> Result<(), AllocError>
-    ensures { OnOk result (out.new.items ≡ out.old.items ++ operands.typed_at names.now globals.now (slice_get opds.now slot)) }
+    ensures { OnOk result (out.new.items ≡ out.old.items ++ operands.typed_at scope.now.names.now scope.now.globals.now (slice_get opds.now slot)) }
 {
     match opds.get(slot) {
         None => Ok(()),
-        Some(opd) => push_typed(out, names, globals, opd),
+        Some(opd) => push_typed(out, scope, opd),
     }
 }
 

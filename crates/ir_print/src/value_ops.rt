@@ -6,10 +6,10 @@ ghost use Rattle.std.specs.Prelude.{◌≡◌, ◌++◌, OnOk, codes, true};
 ghost use Rattle.vx_num.specs.Keywords as keywords;
 ghost use Rattle.ir_print.specs.Instructions as instructions;
 
-use crate::names::Names;
+use crate::scope::Scope;
 use crate::number::{push_ty, push_vector};
 use crate::operand::{push_bare_at, push_ty_at, push_typed_at};
-use ir_types::{Bytes, Opd, Ty};
+use ir_types::{Opd, Ty};
 use std::alloc::AllocError;
 use vx_digits::push_decimal;
 use vx_num::{BinOp, CastOp, Flags, Lane, Pred};
@@ -98,103 +98,97 @@ fn push_flags(out: &mut Vec<u8>, op: BinOp, flags: Flags) -> Result<(), AllocErr
 
 fn push_two(
     out: &mut Vec<u8>,
-    names: &Names,
-    globals: &[Bytes],
+    scope: &Scope,
     opds: &[Opd],
 ) -> Result<(), AllocError>
-    ensures { OnOk result (out.new.items ≡ out.old.items ++ instructions.two_text names.now globals.now opds.now) }
+    ensures { OnOk result (out.new.items ≡ out.old.items ++ instructions.two_text scope.now.names.now scope.now.globals.now opds.now) }
 {
-    push_bare_at(out, names, globals, opds, 0)?;
+    push_bare_at(out, scope, opds, 0)?;
     out.extend_from_slice(b", ")?;
-    push_bare_at(out, names, globals, opds, 1)?;
+    push_bare_at(out, scope, opds, 1)?;
     Ok(())
 }
 
 /// Two operands, each behind its type.
 pub(crate) fn push_two_typed(
     out: &mut Vec<u8>,
-    names: &Names,
-    globals: &[Bytes],
+    scope: &Scope,
     opds: &[Opd],
 ) -> Result<(), AllocError>
-    ensures { OnOk result (out.new.items ≡ out.old.items ++ instructions.two_typed names.now globals.now opds.now) }
+    ensures { OnOk result (out.new.items ≡ out.old.items ++ instructions.two_typed scope.now.names.now scope.now.globals.now opds.now) }
 {
-    push_typed_at(out, names, globals, opds, 0)?;
+    push_typed_at(out, scope, opds, 0)?;
     out.extend_from_slice(b", ")?;
-    push_typed_at(out, names, globals, opds, 1)?;
+    push_typed_at(out, scope, opds, 1)?;
     Ok(())
 }
 
 fn push_three_typed(
     out: &mut Vec<u8>,
-    names: &Names,
-    globals: &[Bytes],
+    scope: &Scope,
     opds: &[Opd],
 ) -> Result<(), AllocError>
-    ensures { OnOk result (out.new.items ≡ out.old.items ++ instructions.three_typed names.now globals.now opds.now) }
+    ensures { OnOk result (out.new.items ≡ out.old.items ++ instructions.three_typed scope.now.names.now scope.now.globals.now opds.now) }
 {
-    push_two_typed(out, names, globals, opds)?;
+    push_two_typed(out, scope, opds)?;
     out.extend_from_slice(b", ")?;
-    push_typed_at(out, names, globals, opds, 2)?;
+    push_typed_at(out, scope, opds, 2)?;
     Ok(())
 }
 
 /// A binary operation.
 pub(crate) fn push_bin(
     out: &mut Vec<u8>,
-    names: &Names,
-    globals: &[Bytes],
+    scope: &Scope,
     op: BinOp,
     flags: Flags,
     ty: Ty,
     opds: &[Opd],
 ) -> Result<(), AllocError>
-    ensures { OnOk result (out.new.items ≡ out.old.items ++ instructions.bin_text names.now globals.now op flags ty opds.now) }
+    ensures { OnOk result (out.new.items ≡ out.old.items ++ instructions.bin_text scope.now.names.now scope.now.globals.now op flags ty opds.now) }
 {
     out.extend_from_slice(bin_word(op))?;
     push_flags(out, op, flags)?;
     out.extend_from_slice(b" ")?;
     push_ty(out, ty)?;
     out.extend_from_slice(b" ")?;
-    push_two(out, names, globals, opds)?;
+    push_two(out, scope, opds)?;
     Ok(())
 }
 
 /// A comparison.
 pub(crate) fn push_icmp(
     out: &mut Vec<u8>,
-    names: &Names,
-    globals: &[Bytes],
+    scope: &Scope,
     pred: Pred,
     opds: &[Opd],
 ) -> Result<(), AllocError>
-    ensures { OnOk result (out.new.items ≡ out.old.items ++ instructions.icmp_text names.now globals.now pred opds.now) }
+    ensures { OnOk result (out.new.items ≡ out.old.items ++ instructions.icmp_text scope.now.names.now scope.now.globals.now pred opds.now) }
 {
     out.extend_from_slice(b"icmp ")?;
     out.extend_from_slice(pred_word(pred))?;
     out.extend_from_slice(b" ")?;
-    push_ty_at(out, names, opds, 0)?;
+    push_ty_at(out, scope.names, opds, 0)?;
     out.extend_from_slice(b" ")?;
-    push_two(out, names, globals, opds)?;
+    push_two(out, scope, opds)?;
     Ok(())
 }
 
 /// A conversion.
 pub(crate) fn push_cast(
     out: &mut Vec<u8>,
-    names: &Names,
-    globals: &[Bytes],
+    scope: &Scope,
     op: CastOp,
     nneg: bool,
     ty: Ty,
     opds: &[Opd],
 ) -> Result<(), AllocError>
-    ensures { OnOk result (out.new.items ≡ out.old.items ++ instructions.cast_text names.now globals.now op nneg ty opds.now) }
+    ensures { OnOk result (out.new.items ≡ out.old.items ++ instructions.cast_text scope.now.names.now scope.now.globals.now op nneg ty opds.now) }
 {
     out.extend_from_slice(cast_word(op))?;
     push_flag(out, nneg, b"nneg")?;
     out.extend_from_slice(b" ")?;
-    push_typed_at(out, names, globals, opds, 0)?;
+    push_typed_at(out, scope, opds, 0)?;
     out.extend_from_slice(b" to ")?;
     push_ty(out, ty)?;
     Ok(())
@@ -203,42 +197,39 @@ pub(crate) fn push_cast(
 /// A `select`.
 pub(crate) fn push_select(
     out: &mut Vec<u8>,
-    names: &Names,
-    globals: &[Bytes],
+    scope: &Scope,
     opds: &[Opd],
 ) -> Result<(), AllocError>
-    ensures { OnOk result (out.new.items ≡ out.old.items ++ (codes "select " ++ instructions.three_typed names.now globals.now opds.now)) }
+    ensures { OnOk result (out.new.items ≡ out.old.items ++ (codes "select " ++ instructions.three_typed scope.now.names.now scope.now.globals.now opds.now)) }
 {
     out.extend_from_slice(b"select ")?;
-    push_three_typed(out, names, globals, opds)?;
+    push_three_typed(out, scope, opds)?;
     Ok(())
 }
 
 /// An `extractelement`.
 pub(crate) fn push_extract(
     out: &mut Vec<u8>,
-    names: &Names,
-    globals: &[Bytes],
+    scope: &Scope,
     opds: &[Opd],
 ) -> Result<(), AllocError>
-    ensures { OnOk result (out.new.items ≡ out.old.items ++ (codes "extractelement " ++ instructions.two_typed names.now globals.now opds.now)) }
+    ensures { OnOk result (out.new.items ≡ out.old.items ++ (codes "extractelement " ++ instructions.two_typed scope.now.names.now scope.now.globals.now opds.now)) }
 {
     out.extend_from_slice(b"extractelement ")?;
-    push_two_typed(out, names, globals, opds)?;
+    push_two_typed(out, scope, opds)?;
     Ok(())
 }
 
 /// An `insertelement`.
 pub(crate) fn push_insert(
     out: &mut Vec<u8>,
-    names: &Names,
-    globals: &[Bytes],
+    scope: &Scope,
     opds: &[Opd],
 ) -> Result<(), AllocError>
-    ensures { OnOk result (out.new.items ≡ out.old.items ++ (codes "insertelement " ++ instructions.three_typed names.now globals.now opds.now)) }
+    ensures { OnOk result (out.new.items ≡ out.old.items ++ (codes "insertelement " ++ instructions.three_typed scope.now.names.now scope.now.globals.now opds.now)) }
 {
     out.extend_from_slice(b"insertelement ")?;
-    push_three_typed(out, names, globals, opds)?;
+    push_three_typed(out, scope, opds)?;
     Ok(())
 }
 
@@ -254,14 +245,13 @@ fn push_mask(out: &mut Vec<u8>, mask: &[Lane]) -> Result<(), AllocError>
 
 fn push_shuffled(
     out: &mut Vec<u8>,
-    names: &Names,
-    globals: &[Bytes],
+    scope: &Scope,
     opds: &[Opd],
 ) -> Result<(), AllocError>
-    ensures { OnOk result (out.new.items ≡ out.old.items ++ instructions.shuffled_text names.now globals.now opds.now) }
+    ensures { OnOk result (out.new.items ≡ out.old.items ++ instructions.shuffled_text scope.now.names.now scope.now.globals.now opds.now) }
 {
     out.extend_from_slice(b"shufflevector ")?;
-    push_two_typed(out, names, globals, opds)?;
+    push_two_typed(out, scope, opds)?;
     out.extend_from_slice(b", ")?;
     Ok(())
 }
@@ -269,14 +259,13 @@ fn push_shuffled(
 /// A `shufflevector`.
 pub(crate) fn push_shuffle(
     out: &mut Vec<u8>,
-    names: &Names,
-    globals: &[Bytes],
+    scope: &Scope,
     mask: &[Lane],
     opds: &[Opd],
 ) -> Result<(), AllocError>
-    ensures { OnOk result (out.new.items ≡ out.old.items ++ instructions.shuffle_text names.now globals.now mask.now opds.now) }
+    ensures { OnOk result (out.new.items ≡ out.old.items ++ instructions.shuffle_text scope.now.names.now scope.now.globals.now mask.now opds.now) }
 {
-    push_shuffled(out, names, globals, opds)?;
+    push_shuffled(out, scope, opds)?;
     push_mask(out, mask)?;
     Ok(())
 }
