@@ -35,7 +35,8 @@ use Rattle.rf_text.specs.Headed.{is_shown, shown_name, shown_params, shown_head,
 use Rattle.rf_text.specs.Written.{stmt_of, shown_text, shown_block, cases_of, more_forms, forms_of as inst_forms}
 use Rattle.rf_text.specs.ModuleForms.{label_forms, insts_forms, more_blocks_forms, blocks_forms, body_forms, func_forms, gap_forms, item_forms, more_items_forms, items_forms, module_forms, kept_at}
 use Rattle.rf_text.specs.OpaqueText.{opaque_forms, opaque_in, IsOpaqueText}
-use Rattle.rf_text.specs.Printable.{IsPlainFunc, IsPlainItem, IsKeptOpaque, IsPrintable, IsNumbered, IsCountedItem, IsCounted}
+use Rattle.rf_text.specs.Printable.{IsKeptOpaque, IsPrintable, IsNumbered, IsCountedItem, IsCounted}
+use Rattle.rf_text.proofs.PlainItems.{IsPlainFunc, IsPlainItem}
 use Rattle.rf_text.specs.Spelled.{closes, AreInside, NoLine, OneLine, IsBrace, solid, MayWrite, AsShown, LeftOut, IsWrittenParam, IsHeaderOf, AreBlocks, NoBlock, Labelled, Unlabelled, Laid, NoItem, EmptyLine, KeptItem, Function, OpaqueItem, Spelled}
 use Rattle.rf_text.proofs.Kept.{formed}
 use Rattle.rf_text.proofs.OpaqueLines.{IsSound, Whole, whole_sound, IsBodyLine, function_forms, Parts, parts_of}

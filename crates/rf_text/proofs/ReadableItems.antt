@@ -45,9 +45,12 @@ use Rattle.ir_types_check.proofs.ReadNames.{onto}
 use Rattle.ir_types_check.proofs.ReadModule.{EachItem, IsFineLine, IsFineItem, IsFineName, IsFuncOf, IsItemOf}
 use Rattle.rf_text.specs.Headed.{is_local_name, is_returned, is_written, IsParam, IsHead}
 use Rattle.rf_text.specs.KeptParts.{IsKeptPart, IsBefore}
-use Rattle.rf_text.specs.Shown.{IsPoisonIfPointer, is_call}
+use Rattle.rf_text.specs.Shown.{is_call}
+use Rattle.ir_types.specs.Formed.{IsPoisonIfPointer}
 use Rattle.rf_text.specs.ModuleForms.{kept_at}
-use Rattle.rf_text.specs.Printable.{is_plain, gives, IsPlainInst, IsPlainBlock, IsPlainFunc, IsPlainLine, IsPlainItem, global_before, globals_in, in_front, tops_in}
+use Rattle.rf_text.specs.Printable.{IsPlainLine, global_before, globals_in, in_front, tops_in}
+use Rattle.rf_text.proofs.PlainItems.{gives, IsPlainInst, IsPlainBlock, IsPlainFunc, IsPlainItem}
+use Rattle.ir_types.specs.Formed.{is_plain}
 use Rattle.rf_text.specs.OpaqueText.{IsOpaqueText, opaque_forms, opaque_name}
 use Rattle.rf_text.proofs.Kept.{kept_again, kept_is, kept_by_text}
 use Rattle.rf_text.proofs.HeadsFound.{symbol_name, words_front}

@@ -34,11 +34,13 @@ use Rattle.ir_print.specs.Text.{is_function, text_of}
 use Rattle.ir_read.specs.Outlook.{has}
 use Rattle.ir_read.specs.Items.{barred_in, has_other_pointers}
 use Rattle.rf_text.specs.Headed.{IsParam, shown_name, shown_param, shown_params, shown_head, first_name}
-use Rattle.rf_text.specs.Shown.{IsPoisonIfPointer}
+use Rattle.ir_types.specs.Formed.{IsPoisonIfPointer}
 use Rattle.rf_text.specs.Written.{shown_text, shown_block, shown_global, written, arg_of, op_of, line_blocks, result_of, stmt_of, cases_of, first_ty, more_forms, forms_of}
 use Rattle.rf_text.specs.ModuleForms.{label_forms, insts_forms, more_blocks_forms, blocks_forms, func_forms, item_forms, gap_forms, more_items_forms, items_forms, module_forms}
 use Rattle.rf_text.specs.OpaqueText.{opaque_forms, opaque_name, opaque_in}
-use Rattle.rf_text.specs.Printable.{is_plain, in_front, written_names, IsPlainInst, IsPlainBlock, IsPlainFunc, IsPlainItem, globals_in, global_before, tops_in, IsAllowed, IsAllowedBlock, IsAllowedItem, has_function, IsPrintable, ids_from, IsNumbered, IsCountedItem, IsCounted, IsKeptOpaque}
+use Rattle.rf_text.specs.Printable.{in_front, written_names, globals_in, global_before, tops_in, IsAllowed, IsAllowedBlock, IsAllowedItem, has_function, IsPrintable, ids_from, IsNumbered, IsCountedItem, IsCounted, IsKeptOpaque}
+use Rattle.rf_text.proofs.PlainItems.{IsPlainInst, IsPlainBlock, IsPlainFunc, IsPlainItem}
+use Rattle.ir_types.specs.Formed.{is_plain}
 use Rattle.rf_text.specs.ModuleForms.{kept_at}
 use Rattle.rf_text.specs.Reads.{Reads}
 use Rattle.rf_text.specs.Spelled.{Spelled}

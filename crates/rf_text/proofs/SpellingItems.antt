@@ -30,7 +30,8 @@ use Rattle.ir_types_check.proofs.Handed.{LocalMeaning, TopMeaning, function_of, 
 use Rattle.rf_text.specs.Headed.{shown_params, shown_head}
 use Rattle.rf_text.specs.ModuleForms.{kept_at}
 use Rattle.rf_text.specs.OpaqueText.{opaque_name}
-use Rattle.rf_text.specs.Printable.{IsPlainFunc, IsPrintable, IsNumbered, IsCounted, globals_in}
+use Rattle.rf_text.specs.Printable.{IsPrintable, IsNumbered, IsCounted, globals_in}
+use Rattle.rf_text.proofs.PlainItems.{IsPlainFunc}
 use Rattle.rf_text.specs.Spelled.{IsWrittenParam, IsHeaderOf, AreBlocks}
 use Rattle.rf_text.proofs.NamedFound.{HasGlobals, blocks_are_read, all_end}
 use Rattle.rf_text.proofs.NamedFunction as named

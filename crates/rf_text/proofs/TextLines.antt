@@ -20,7 +20,8 @@ use Rattle.ir_read.specs.Opaque.{joined as between_feeds}
 use Rattle.rf_text.specs.LinesOf.{joined, is_line}
 use Rattle.rf_text.specs.ModuleForms.{kept_at, item_forms, gap_forms, more_items_forms, items_forms, module_forms}
 use Rattle.rf_text.specs.OpaqueText.{opaque_forms, IsOpaqueText}
-use Rattle.rf_text.specs.Printable.{IsPlainItem, IsPrintable, IsCountedItem, IsCounted}
+use Rattle.rf_text.specs.Printable.{IsPrintable, IsCountedItem, IsCounted}
+use Rattle.rf_text.proofs.PlainItems.{IsPlainItem}
 use Rattle.rf_text.specs.TextLines.{TextLines}
 use Rattle.rf_text.proofs.Insts.{heads, tails, none_more, joined_append}
 use Rattle.rf_text.proofs.InstsBodies.{form_sound}
