@@ -1,4 +1,5 @@
 -- Lemmas on the model that the laws of other crates share.
+pub mod Callees
 pub mod Lists
 pub mod Stores
 pub mod Pointers

@@ -3,10 +3,13 @@
 //! Each law is the contract of a function that does nothing and that no program calls; a caller that calls it has the law.
 
 ghost use Rattle.std.specs.Prelude.{◌≡◌, ℕ, ◌≤◌, Option, List, length};
+ghost use Rattle.std.specs.List.{Contains};
 ghost use Rattle.ir_types.specs.declared.id.Id.{Id};
 ghost use Rattle.ir_types.specs.declared.ty.Ty.{Ty};
 ghost use Rattle.ir_types.specs.declared.inst.Inst.{Inst};
 ghost use Rattle.ir_types.specs.declared.func.Block.{Block};
+ghost use Rattle.ir_types.specs.declared.func.Func.{Func};
+ghost use Rattle.ir_types.specs.declared.module.Item.TheVariants.{Func as FuncItem};
 ghost use Rattle.ir_types.specs.declared.module.Module.{Module};
 ghost use Rattle.ir_types.specs.Formed.{IsFormed};
 ghost use Rattle.ir_types.specs.Renumbered.{renumbered};
@@ -38,6 +41,11 @@ pub fn renumbered_refines()
     ensures formed { (m : Module) → IsFormed m → IsFormed (renumbered m) }
     ensures new { (m : Module) → IsFormed m → ModuleRefines (renumbered m) m }
     ensures old { (m : Module) → IsFormed m → ModuleRefines m (renumbered m) }
+{}
+
+/// In a formed module a name is one function's alone, so what a call names is one function.
+pub fn callees_are_single()
+    ensures { (m : Module) → IsFormed m → (f g : Func) → Contains m.items (FuncItem f) → Contains m.items (FuncItem g) → f.name ≡ g.name → f ≡ g }
 {}
 
 /// As long as calls are not read, a run is what it is where a call has no meaning.

@@ -9,8 +9,8 @@ mod outcome;
 mod value;
 
 pub use laws::{
-    modules_refine, outcomes_refine, renumbered_refines, runs_are_call_free, steps_are_monotone,
-    undefined_has_causes, values_keep_their_shapes,
+    callees_are_single, modules_refine, outcomes_refine, renumbered_refines, runs_are_call_free,
+    steps_are_monotone, undefined_has_causes, values_keep_their_shapes,
 };
 pub use outcome::Outcome;
 pub use value::Value;

@@ -20,7 +20,7 @@ use Rattle.ir_types.specs.declared.module.Module.{Module}
 use Rattle.ir_types.specs.Typed.{is_value, IsTyped}
 use Rattle.ir_types.specs.Walks.{targets_at, IsWalk}
 use Rattle.ir_types.specs.Available.{same_id, op_targets, targets_of, block_targets, is_param, defines, insts_of, insts_at, stands_from, stands_on, before_use, IsAvailableOpd, IsAvailableInst, IsAvailableBlock, IsAvailableFunc, IsAvailableItem}
-use Rattle.ir_types.specs.Formed.{given_ty, ty_in_insts, or_else, ty_in_blocks, ty_in_params, value_ty, opd_ty, IsOpd, is_terminator, ends_from, EndsOnce, PhisFirst, is_phi, IsIncoming, IsCalling, block_ids, item_ids, ids_of_items, ids_of, IsFormedInst, IsFormedBlock, IsFormedFunc, IsFormedItem, IsFormed}
+use Rattle.ir_types.specs.Formed.{given_ty, ty_in_insts, or_else, ty_in_blocks, ty_in_params, value_ty, opd_ty, IsOpd, is_terminator, ends_from, EndsOnce, PhisFirst, is_phi, IsIncoming, IsCalling, block_ids, item_ids, ids_of_items, ids_of, IsFormedInst, IsFormedBlock, IsFormedFunc, IsFormedItem, IsFormed, IsPoisonIfPointer, is_plain, IsPlainInst, IsPlainBlock, IsPlainFunc, IsPlainItem, function_names}
 use Rattle.ir_types.specs.Renumbered.{new_id, new_opd, new_inst, new_block, new_param, new_func, new_item, renumbered}
 use Rattle.ir_types.proofs.Formed.{Every, every_at}
 use Rattle.ir_types.proofs.Among.{among, same_is, same_itself, new_apart, In, OpdIn, InstIn, BlockIn, FuncIn, ItemIn, module_in}
@@ -223,6 +223,44 @@ module _ (ids : List Id) where
     item_new (Opaque text) h z = tt
     item_new (FuncItem f) h z = func_new f h z
 
+  -- ---- names
+
+  poison_new : (o : Opd) → IsPoisonIfPointer o → IsPoisonIfPointer (new_opd ids o)
+  poison_new (Val x) h = tt
+  poison_new (Lit l) h = h
+  poison_new (Sym g) h = tt
+
+  plain_inst : (i : Inst) → IsPlainInst i → IsPlainInst (new_inst ids i)
+  plain_inst i h = record {
+    named = h.named;
+    silent = h.silent;
+    pointers = All-map IsPoisonIfPointer (new_opd ids) i.opds (λ k d less. poison_new (get_or i.opds k d) (h.pointers k d less));
+  }
+
+  plain_block : (b : Block) → IsPlainBlock b → IsPlainBlock (new_block ids b)
+  plain_block b h = record {
+    named = h.named;
+    insts = All-map IsPlainInst (new_inst ids) b.insts (λ k d less. plain_inst (get_or b.insts k d) (h.insts k d less));
+  }
+
+  plain_func : (f : Func) → IsPlainFunc f → IsPlainFunc (new_func ids f)
+  plain_func f h = record {
+    named = h.named;
+    params = All-map (λ (p : Param). is_plain p.name ≡ true) (new_param ids) f.params h.params;
+    blocks = All-map IsPlainBlock (new_block ids) f.blocks (λ k d less. plain_block (get_or f.blocks k d) (h.blocks k d less));
+  }
+
+  plain_item : (i : Item) → IsPlainItem i → IsPlainItem (new_item ids i)
+  plain_item (Kept text) h = tt
+  plain_item (Opaque text) h = tt
+  plain_item (FuncItem f) h = plain_func f h
+
+  same_names : (items : List Item) → function_names (map (new_item ids) items) ≡ function_names items
+  same_names [] = refl
+  same_names (Kept text ∷ items) = same_names items
+  same_names (Opaque text ∷ items) = same_names items
+  same_names (FuncItem f ∷ items) = ap (λ xs. f.name ∷ xs) (same_names items)
+
   -- ---- availability
 
   before_new : (op : Op) (last : List Inst) (k : ℕ) → before_use op (map (new_inst ids) last) k ≡ before_use op last k
@@ -328,6 +366,10 @@ pub renumbered_formed : (m : Module) → IsFormed m → IsFormed (renumbered m)
 renumbered_formed m h = record {
   items = All-map (IsFormedItem (renumbered m)) (new_item (ids_of m)) m.items
       (λ k d less. item_new (ids_of m) m (get_or m.items k d) (every_at (ItemIn (ids_of m)) m.items k (get_or m.items k d) (module_in m h) (slice_get-get_or m.items k d less)) (h.items k d less));
+  plain = record {
+    items = All-map IsPlainItem (new_item (ids_of m)) m.items (λ k d less. plain_item (ids_of m) (get_or m.items k d) (h.plain.items k d less));
+    names = subst (AllPairs (λ (a b : List ℕ). a ≡ b → ⊥)) (sym (same_names (ids_of m) m.items)) h.plain.names;
+  };
   once = subst (AllPairs (λ (a b : Id). a ≡ b → ⊥)) (sym (items_new_ids (ids_of m) m.items)) (new_once (ids_of m) h.once);
   available = λ k j e.
       let r = map_found (new_item (ids_of m)) m.items k j e in

@@ -3,11 +3,14 @@
 -- Headers and instructions are of the forms of the profile, with its types, literals and aligns; each function has a block; each
 -- block has its phis first and exactly one terminator, its last instruction; each target, symbol and callee that is named is
 -- there, and each local operand is a parameter or an instruction of the same function; each id is defined once; and each use is
--- available along each walk to it. (Language Reference, "Functions", "phi Instruction", "call Instruction", "Well-Formedness".)
-use Rattle.std.specs.Prelude.{◌≡◌, ℕ, ◌<◌, ◌≤◌, ◌⊎◌, Bool, true, false, not, ◌&&◌, ◌==◌, nat_lt, if◌then◌else◌, List, [], ◌∷◌, ◌++◌, length, map, slice_get, count_by}
+-- available along each walk to it. Names are plain ones, no two functions have one name, what gives no value has no name, and a literal
+-- of a pointer is `poison`. (Language Reference, "Functions", "phi Instruction", "call Instruction", "Well-Formedness".)
+use Rattle.std.specs.Prelude.{◌≡◌, ℕ, ◌<◌, ◌≤◌, ◌⊎◌, Bool, true, false, not, ◌&&◌, ◌==◌, nat_lt, if◌then◌else◌, refl, codes, List, [], ◌∷◌, ◌++◌, length, map, slice_get, count_by}
 use Rattle.std.specs.List.{All, AllPairs, Contains}
 use Rattle.std.specs.declared.option.Option.{Option}
 use Rattle.std.specs.declared.option.Option.TheVariants.{None, Some}
+use Rattle.ir_lex.specs.Bytes.{begins_name, is_word_byte}
+use Rattle.ir_lex.specs.Tokens.{is_name}
 use Rattle.ir_types.specs.declared.id.Id.{Id}
 use Rattle.ir_types.specs.declared.ty.Ty.{Ty}
 use Rattle.ir_types.specs.declared.ty.Ty.TheVariants.{Void, Ptr}
@@ -137,6 +140,57 @@ abbrev pub IsFormedItem : Module → Item → Type 0
 IsFormedItem m (FuncItem func) = IsFormedFunc m func
 IsFormedItem m _ = Unit {0}
 
+-- ---- names, results and literals of pointers
+
+-- a written name, if there is one, is a plain one: neither quoted nor a number
+abbrev pub is_plain : Option (List ℕ) → Bool
+is_plain None = true
+is_plain (Some name) = is_name name
+
+-- a pointer's literal is poison
+abbrev pub IsPoisonIfPointer : Opd → Type 0
+IsPoisonIfPointer (Lit literal) = literal.ty ≡ Ptr → literal.lanes ≡ None ∷ []
+IsPoisonIfPointer o = Unit {0}
+
+pub record IsPlainInst (i : Inst) : Type 0 where
+  pub named : is_plain i.name ≡ true
+  -- what gives no value has no name
+  pub silent : given_ty i.op i.ty ≡ Void → i.name ≡ None
+  pub pointers : All IsPoisonIfPointer i.opds
+
+pub record IsPlainBlock (b : Block) : Type 0 where
+  pub named : is_plain b.name ≡ true
+  pub insts : All IsPlainInst b.insts
+
+pub record IsPlainFunc (f : Func) : Type 0 where
+  pub named : is_name f.name ≡ true
+  pub params : All (λ (p : Param). is_plain p.name ≡ true) f.params
+  pub blocks : All IsPlainBlock f.blocks
+
+abbrev pub IsPlainItem : Item → Type 0
+IsPlainItem (FuncItem f) = IsPlainFunc f
+IsPlainItem _ = Unit {0}
+
+-- the names of functions in order of text
+abbrev pub function_names : List Item → List (List ℕ)
+function_names [] = []
+function_names (FuncItem f ∷ items) = f.name ∷ function_names items
+function_names (_ ∷ items) = function_names items
+
+pub record IsPlain (m : Module) : Type 0 where
+  pub items : All IsPlainItem m.items
+  -- no two functions have one name, so a call names one
+  pub names : AllPairs (λ (a b : List ℕ). a ≡ b → ⊥) (function_names m.items)
+
+-- a name is plain, or there is none; a number is no plain name
+named_plainly : is_plain (Some (codes "sum.1")) ≡ true
+unfolding begins_name is_word_byte
+named_plainly = refl
+
+numbered_plainly : is_plain (Some (codes "7")) ≡ false
+unfolding begins_name
+numbered_plainly = refl
+
 -- ---- ids
 
 abbrev pub block_ids : List Block → List Id
@@ -163,6 +217,7 @@ IsFresh m r = All (λ (id : Id). id.region ≤ r) (ids_of m)
 
 pub record IsFormed (m : Module) : Type 0 where
   pub items : All (IsFormedItem m) m.items
+  pub plain : IsPlain m
   pub once : AllPairs (λ (a b : Id). a ≡ b → ⊥) (ids_of m)
   pub available : IsAvailable m
 

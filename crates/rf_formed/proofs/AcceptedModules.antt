@@ -6,7 +6,7 @@ use Rattle.ir_types.specs.declared.ty.Ty.{Ty}
 use Rattle.ir_types.specs.declared.ty.Ty.TheVariants.{Void, Int, Ptr, Row}
 use Rattle.ir_types.specs.declared.func.Param.{Param}
 use Rattle.ir_types.specs.Typed.{is_value}
-use Rattle.ir_types.specs.Formed.{ids_of}
+use Rattle.ir_types.specs.Formed.{ids_of, IsPlain}
 use Rattle.ir_line.specs.declared.head.Head.{Head}
 use Rattle.ir_line.specs.declared.draft.Draft.{Draft}
 use Rattle.ir_line.specs.declared.draft.DraftItem.{DraftItem}
@@ -22,11 +22,13 @@ use Rattle.ir_types_check.specs.Resolved.{resolved_of}
 use Rattle.ir_types_check.proofs.BodyFormed.{HasTypes}
 use Rattle.ir_types_check.proofs.BodyIds as counted
 use Rattle.ir_types_check.proofs.ItemsFormed.{IsFitItem, FormedItems, resolved_is_formed}
+use Rattle.ir_types_check.proofs.NamesHold.{names_hold}
 use Rattle.rf_text.specs.Headed.{is_returned, IsParam, IsHead}
 use Rattle.rf_text.specs.Printable.{ids_from}
 use Rattle.rf_text.proofs.Cut as cuts
 use Rattle.rf_text.proofs.Cut.{Cut, text_cut}
 use Rattle.rf_text.proofs.HeadsFound.{head_of_line}
+use Rattle.rf_text.proofs.ReadableModule.{read_plain}
 use Rattle.rf_formed.specs.Accepted.{AcceptedIsFormedButForWalks, AcceptedIsFormed, AcceptedIsNumbered}
 
 returned : (t : Ty) → is_returned t ≡ true → (t ≡ Void) ⊎ (is_value t ≡ true)
@@ -54,15 +56,18 @@ cut_fits (cuts.OpaqueLines n l name head body brace ls xs is own inside last c) 
 formed_items : (bytes : List ℕ) (d : Draft) (r : Resolved) → draft_of bytes ≡ Ok d → resolved_of d ≡ Ok r → FormedItems r.«module»
 formed_items bytes d r read resolved = resolved_is_formed d r (cut_fits (text_cut bytes d.items (draft_items bytes d read))) resolved
 
+plain : (bytes : List ℕ) (d : Draft) (r : Resolved) → draft_of bytes ≡ Ok d → resolved_of d ≡ Ok r → IsPlain r.«module»
+plain bytes d r read resolved = read_plain bytes r.«module» (record { items = d.items; says = draft_items bytes d read; named = names_hold d r resolved })
+
 pub formed_but_for_walks : AcceptedIsFormedButForWalks
 formed_but_for_walks bytes d r read resolved =
     let f : FormedItems r.«module» = formed_items bytes d r read resolved in
-    record { items = f.items; once = f.once }
+    record { items = f.items; plain = plain bytes d r read resolved; once = f.once }
 
 pub formed : AcceptedIsFormed
 formed bytes d r read resolved available =
     let f : FormedItems r.«module» = formed_items bytes d r read resolved in
-    record { items = f.items; once = f.once; available = available }
+    record { items = f.items; plain = plain bytes d r read resolved; once = f.once; available = available }
 
 same_ids : (k n : ℕ) → counted.ids_from k n ≡ ids_from k n
 same_ids k zero = refl

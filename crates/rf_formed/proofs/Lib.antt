@@ -1,2 +1,3 @@
 -- Why what is read and well typed is formed.
 pub mod AcceptedModules
+pub mod PairedPrintable

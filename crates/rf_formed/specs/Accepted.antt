@@ -5,7 +5,7 @@ use Rattle.std.specs.List.{All, AllPairs}
 use Rattle.ir_types.specs.declared.id.Id.{Id}
 use Rattle.ir_types.specs.declared.module.Module.{Module}
 use Rattle.ir_types.specs.Available.{IsAvailable}
-use Rattle.ir_types.specs.Formed.{IsFormedItem, ids_of, IsFormed}
+use Rattle.ir_types.specs.Formed.{IsFormedItem, ids_of, IsPlain, IsFormed}
 use Rattle.ir_line.specs.declared.draft.Draft.{Draft}
 use Rattle.ir_read.specs.Draft.{draft_of}
 use Rattle.ir_types_check.specs.declared.resolved.Resolved.{Resolved}
@@ -15,6 +15,7 @@ use Rattle.rf_text.specs.Printable.{IsNumbered}
 -- formed, walks aside
 pub record IsFormedButForWalks (m : Module) : Type 0 where
   pub items : All (IsFormedItem m) m.items
+  pub plain : IsPlain m
   pub once : AllPairs (λ (a b : Id). a ≡ b → ⊥) (ids_of m)
 
 abbrev pub AcceptedIsFormedButForWalks : Type 0

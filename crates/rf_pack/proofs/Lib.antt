@@ -6,3 +6,6 @@ pub mod Mates
 pub mod Straight
 pub mod Runs
 pub mod Modules
+pub mod PairShape
+pub mod PairKept
+pub mod PairFormed

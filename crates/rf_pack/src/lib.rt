@@ -7,6 +7,7 @@
 ghost use Rattle.std.specs.Prelude.{◌≡◌, ℕ, ◌≤◌, List, ◌∷◌, length};
 ghost use Rattle.ir_types.specs.declared.module.Module.{Module};
 ghost use Rattle.ir_types.specs.declared.ty.Ty.TheVariants.{Row};
+ghost use Rattle.ir_types.specs.Formed.{IsFormed};
 ghost use Rattle.ir_model.specs.declared.value.Value.TheVariants.{Row as RowValue};
 ghost use Rattle.ir_model.specs.Values.{Pointer, MayStandFor};
 ghost use Rattle.ir_model.specs.Memory.{Memory};
@@ -23,4 +24,9 @@ pub fn row_store_refines()
 /// The module in which two neighbouring stores have become one refines the module.
 pub fn pair_refines()
     ensures { (m : Module) → ModuleRefines (pair_of m) m }
+{}
+
+/// A formed module in which two neighbouring stores have become one is formed.
+pub fn pair_stays_formed()
+    ensures { (m : Module) → IsFormed m → IsFormed (pair_of m) }
 {}

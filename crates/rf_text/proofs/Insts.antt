@@ -23,7 +23,8 @@ use Rattle.ir_print.specs.declared.names.Local.{Local}
 use Rattle.ir_print.specs.Names.{Names, local_of, is_store, is_void}
 use Rattle.ir_print.specs.Instructions.{inst_text, act_text, result_text}
 use Rattle.ir_read.specs.Forms.{form_in}
-use Rattle.rf_text.specs.Shown.{Shown, shown_ty, IsPoisonIfPointer}
+use Rattle.rf_text.specs.Shown.{Shown, shown_ty}
+use Rattle.ir_types.specs.Formed.{IsPoisonIfPointer}
 use Rattle.rf_text.specs.Written.{forms_of}
 use Rattle.rf_text.specs.LinesOf.{joined}
 use Rattle.rf_text.specs.Printed.{Printed}

@@ -19,7 +19,8 @@ use Rattle.ir_print.specs.declared.names.Local.{Local}
 use Rattle.ir_print.specs.Names.{Names, local_of, is_void}
 use Rattle.ir_print.specs.Operands.{label_text}
 use Rattle.ir_print.specs.Instructions.{act_text}
-use Rattle.rf_text.specs.Shown.{Shown, Fits, shown_ty, IsPoisonIfPointer}
+use Rattle.rf_text.specs.Shown.{Shown, Fits, shown_ty}
+use Rattle.ir_types.specs.Formed.{IsPoisonIfPointer}
 use Rattle.rf_text.specs.Printed.{IsReadAgain}
 use Rattle.rf_text.specs.Written.{written, arg_of, shown_block}
 use Rattle.rf_text.proofs.Words.{Told}

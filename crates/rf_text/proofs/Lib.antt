@@ -1,5 +1,6 @@
 -- Why what is printed is read again.
 pub mod Cut
+pub mod FunctionNames
 pub mod Given
 pub mod HeadWords
 pub mod HeadsAgain
@@ -46,6 +47,7 @@ pub mod PlacedInsts
 pub mod PlacedItems
 pub mod PlacedModule
 pub mod PlacedNames
+pub mod PlainItems
 pub mod PrintedSpells
 pub mod Publics
 pub mod ReadableForms

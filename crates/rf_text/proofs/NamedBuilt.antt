@@ -23,7 +23,7 @@ use Rattle.ir_types_check.specs.Scope.{Scope}
 use Rattle.ir_types_check.specs.Outline.{written_name, written as written_again}
 use Rattle.ir_types_check.specs.Blocks.{open_block, with_last, with_inst, labelled, with_statement, built_lines}
 use Rattle.ir_types_check.proofs.Handed.{LocalMeaning, TopMeaning, BuiltSoFar}
-use Rattle.rf_text.specs.Printable.{gives}
+use Rattle.rf_text.proofs.PlainItems.{gives}
 use Rattle.rf_text.specs.Written.{result_of, shown_text, stmt_of, first_ty, more_forms, cases_of, forms_of}
 use Rattle.rf_text.specs.ModuleForms.{label_forms, insts_forms, more_blocks_forms, blocks_forms}
 use Rattle.rf_text.proofs.NamedThings.{Thing, inst_thing, insts_things, blocks_things}

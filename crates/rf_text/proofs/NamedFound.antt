@@ -21,7 +21,7 @@ use Rattle.ir_print.specs.declared.names.Local.{Local}
 use Rattle.ir_print.specs.Names.{names_of, locals_from, labels_from, shown, counted, same_id, last_of, local_of, is_store, is_void}
 use Rattle.ir_types_check.specs.Scope.{Scope, meaning}
 use Rattle.ir_types_check.proofs.Handed.{LocalMeaning, TopMeaning, block_at, global_at}
-use Rattle.rf_text.specs.Printable.{IsPlainInst, IsPlainBlock, IsPlainFunc}
+use Rattle.rf_text.proofs.PlainItems.{IsPlainInst, IsPlainBlock, IsPlainFunc}
 use Rattle.rf_text.proofs.NamedThings.{Thing, Gives, Silent, Begins, inst_thing, insts_things, blocks_things, params_things, things_of, named_things, things_are}
 use Rattle.rf_text.proofs.NamedPlaces.{Known, IsPlaced, value_placed, block_known}
 use Rattle.rf_text.proofs.NamedLinks.{IsFoundOpd, IsFoundBlock, IsFoundInst}

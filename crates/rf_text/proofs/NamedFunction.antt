@@ -22,7 +22,9 @@ use Rattle.ir_types_check.specs.Blocks.{params_from, param_lines, built_of}
 use Rattle.ir_types_check.specs.Resolved.{with_built, resolved_function}
 use Rattle.ir_types_check.proofs.Handed.{LocalMeaning, TopMeaning, LocalNames, BuiltSoFar, DoneSoFar}
 use Rattle.rf_text.specs.Headed.{shown_name, shown_params, shown_head}
-use Rattle.rf_text.specs.Printable.{is_plain, written_names, IsPlainInst, IsPlainBlock, IsPlainFunc, ids_from}
+use Rattle.rf_text.specs.Printable.{written_names, ids_from}
+use Rattle.rf_text.proofs.PlainItems.{IsPlainInst, IsPlainBlock, IsPlainFunc}
+use Rattle.ir_types.specs.Formed.{is_plain}
 use Rattle.rf_text.specs.ModuleForms.{body_forms}
 use Rattle.rf_text.proofs.NamedScope.{Once}
 use Rattle.rf_text.proofs.NamedThings.{Thing, Gives, Begins, inst_thing, insts_things, blocks_things, params_things, things_of, named_things, things_are, scope_from, IsPlainThing, once_from}

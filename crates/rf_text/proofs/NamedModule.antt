@@ -7,7 +7,8 @@ use Rattle.ir_types.specs.declared.module.Item.{Item}
 use Rattle.ir_types.specs.declared.module.Item.TheVariants.{Kept, Opaque, Func as FuncItem}
 use Rattle.ir_types.specs.declared.module.Module.{Module}
 use Rattle.ir_types.specs.Formed.{IsFormedFunc, IsFormedItem, item_ids, ids_of_items}
-use Rattle.rf_text.specs.Printable.{IsPlainLine, IsPlainFunc, IsPlainItem, ids_from, IsCountedItem}
+use Rattle.rf_text.specs.Printable.{IsPlainLine, ids_from, IsCountedItem}
+use Rattle.rf_text.proofs.PlainItems.{IsPlainFunc, IsPlainItem}
 use Rattle.rf_text.proofs.NamedPlaces.{ids_split}
 use Rattle.rf_text.proofs.NamedFunction.{Stands, stands}
 

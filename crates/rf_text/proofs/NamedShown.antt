@@ -13,7 +13,7 @@ use Rattle.ir_lex.proofs.Classes.{both, digit_no_name}
 use Rattle.ir_line.proofs.Steps.{bytes_is}
 use Rattle.ir_print.specs.Names.{shown, counted}
 use Rattle.ir_types_check.specs.Outline.{is_number, written_name, after_name}
-use Rattle.rf_text.specs.Printable.{is_plain}
+use Rattle.ir_types.specs.Formed.{is_plain}
 
 -- ---- a number
 

@@ -15,7 +15,8 @@ use Rattle.ir_line.proofs.Steps.{bytes_is}
 use Rattle.ir_print.specs.Names.{Named, Value, Label, named_of, params_named, blocks_named, insts_named, result_named, shown, counted, is_store, is_void}
 use Rattle.ir_types_check.specs.Scope.{Scope, meaning}
 use Rattle.ir_types_check.proofs.Handed.{LocalMeaning, value_at, block_at}
-use Rattle.rf_text.specs.Printable.{is_plain, in_front, written_names}
+use Rattle.rf_text.specs.Printable.{in_front, written_names}
+use Rattle.ir_types.specs.Formed.{is_plain}
 use Rattle.rf_text.proofs.NamedScope.{Once}
 use Rattle.rf_text.proofs.NamedShown.{numbers_apart, kinds_apart, apart_kinds, counted_most, counted_least}
 

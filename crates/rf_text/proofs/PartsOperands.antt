@@ -25,7 +25,8 @@ use Rattle.ir_print.specs.declared.names.Local.{Local}
 use Rattle.ir_print.specs.Literals.{ty_text}
 use Rattle.ir_print.specs.Names.{Names, local_of, last_of, same_id}
 use Rattle.ir_print.specs.Operands.{opd_text, opd_ty, local_text, local_ty, global_text, typed_text}
-use Rattle.rf_text.specs.Shown.{Shown, IsLocalName, shown_ty, IsPoisonIfPointer}
+use Rattle.rf_text.specs.Shown.{Shown, IsLocalName, shown_ty}
+use Rattle.ir_types.specs.Formed.{IsPoisonIfPointer}
 use Rattle.rf_text.specs.Written.{written, shown_text, shown_global}
 use Rattle.rf_text.proofs.Words.{Taken, plain_append, Told}
 use Rattle.rf_text.proofs.WordsNames.{Named, local_named, local_texts, run_is_plain, symbol_texts, symbol_read, symbol_plain}

@@ -21,7 +21,7 @@ use Rattle.ir_read.proofs.Placing.{Place, no_block, front, place, body_line, bod
 use Rattle.rf_text.specs.Headed.{shown_params}
 use Rattle.rf_text.specs.Written.{op_of, stmt_of, more_forms}
 use Rattle.rf_text.specs.ModuleForms.{label_forms, insts_forms, more_blocks_forms, blocks_forms, body_forms}
-use Rattle.rf_text.specs.Printable.{is_plain}
+use Rattle.ir_types.specs.Formed.{is_plain}
 use Rattle.rf_text.proofs.PlacedNames.{Ahead, Apart, values_apart, name_taken, ahead_small, label_found, label_passed}
 use Rattle.rf_text.proofs.PlacedInsts.{IsFitting, InstsStand, insts_stand, lines_append, ParamsTaken, params_taken}
 

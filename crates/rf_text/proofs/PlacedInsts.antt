@@ -26,7 +26,7 @@ use Rattle.rf_text.specs.Headed.{shown_name, shown_params}
 use Rattle.rf_text.specs.Shown.{is_call}
 use Rattle.rf_text.specs.Written.{shown_text, shown_global, arg_of, op_of, result_of, stmt_of, cases_of, first_ty, more_forms, forms_of}
 use Rattle.rf_text.specs.ModuleForms.{insts_forms}
-use Rattle.rf_text.specs.Printable.{is_plain}
+use Rattle.ir_types.specs.Formed.{is_plain}
 use Rattle.rf_text.proofs.PlacedNames.{Ahead, name_taken, ahead_small, value_found, value_passed}
 
 -- ---- lines behind others

@@ -16,7 +16,8 @@ use Rattle.ir_print.specs.Names.{named_of}
 use Rattle.ir_read.specs.Items.{barred_in}
 use Rattle.ir_read.proofs.Placing.{Known}
 use Rattle.rf_text.specs.ModuleForms.{module_forms}
-use Rattle.rf_text.specs.Printable.{IsPlainInst, IsPlainBlock, IsPlainFunc, IsPlainItem, IsAllowed, IsAllowedBlock, IsAllowedItem, has_function, IsCountedItem}
+use Rattle.rf_text.specs.Printable.{IsAllowed, IsAllowedBlock, IsAllowedItem, has_function, IsCountedItem}
+use Rattle.rf_text.proofs.PlainItems.{IsPlainInst, IsPlainBlock, IsPlainFunc, IsPlainItem}
 use Rattle.rf_text.proofs.PlacedNames.{Apart, IsNone}
 use Rattle.rf_text.proofs.PlacedInsts.{IsFree, IsFitting}
 use Rattle.rf_text.proofs.PlacedBlocks.{IsFittingBlock, AreFitting, IsFittingFunc}

@@ -18,7 +18,7 @@ use Rattle.ir_types.specs.Formed.{block_ids}
 use Rattle.ir_print.specs.declared.names.Local.{Local}
 use Rattle.ir_print.specs.Names.{Names, Named, Value, Label, result_named, insts_named, blocks_named, params_named, shown, counted, locals_from, labels_from, same_id, last_of, local_of, is_store, is_void}
 use Rattle.ir_read.specs.Numbers.{is_unnamed, after_name}
-use Rattle.rf_text.specs.Printable.{is_plain}
+use Rattle.ir_types.specs.Formed.{is_plain}
 use Rattle.rf_text.proofs.WordsNumbers.{IsDecimal, decimal_is, decimal_read}
 
 -- ---- one name

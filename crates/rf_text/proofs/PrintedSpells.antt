@@ -35,7 +35,8 @@ use Rattle.rf_text.specs.Headed.{is_shown, shown_name, shown_params, shown_head,
 use Rattle.rf_text.specs.Written.{stmt_of, shown_text, shown_block, cases_of, more_forms, forms_of as inst_forms}
 use Rattle.rf_text.specs.ModuleForms.{label_forms, insts_forms, more_blocks_forms, blocks_forms, body_forms, func_forms, gap_forms, item_forms, more_items_forms, items_forms, module_forms, kept_at}
 use Rattle.rf_text.specs.OpaqueText.{opaque_forms, opaque_in, IsOpaqueText}
-use Rattle.rf_text.specs.Printable.{IsPlainFunc, IsPlainItem, IsKeptOpaque, IsPrintable, IsNumbered, IsCountedItem, IsCounted}
+use Rattle.rf_text.specs.Printable.{IsKeptOpaque, IsPrintable, IsNumbered, IsCountedItem, IsCounted}
+use Rattle.rf_text.proofs.PlainItems.{IsPlainFunc, IsPlainItem, plain_items}
 use Rattle.rf_text.specs.Spelled.{closes, AreInside, NoLine, OneLine, IsBrace, solid, MayWrite, AsShown, LeftOut, IsWrittenParam, IsHeaderOf, AreBlocks, NoBlock, Labelled, Unlabelled, Laid, NoItem, EmptyLine, KeptItem, Function, OpaqueItem, Spelled}
 use Rattle.rf_text.proofs.Kept.{formed}
 use Rattle.rf_text.proofs.OpaqueLines.{IsSound, Whole, whole_sound, IsBodyLine, function_forms, Parts, parts_of}
@@ -277,7 +278,7 @@ module _ (m : Module) (globals : All (λ g. is_name g ≡ true) m.globals) (all 
 pub printed_spells : (m : Module) → IsFormed m → IsPrintable m → IsNumbered m → IsCounted m → Spelled (text_of m) m
 printed_spells m formed printable numbered few =
     let s : SaidItems m printable.named (module_forms m) m.items (text_of m) (module_forms m) =
-    all_items_said m printable.named (module_forms m) m.items formed.items printable.items (once_ids (ids_of_items m.items) formed.once) few (opaques m printable.named m.items printable.opaques) (pairs_apart _ formed.once) in
+    all_items_said m printable.named (module_forms m) m.items formed.items (plain_items m formed printable) (once_ids (ids_of_items m.items) formed.once) few (opaques m printable.named m.items printable.opaques) (pairs_apart _ formed.once) in
     let again : lines_of (text_of m) ≡ s.said.lines = ap lines_of s.said.whole ∙ lines_of_joined s.said.lines (all_lines s.said.lines s.said.sound) in
     record {
       sound = subst (All (λ l. fault_of l ≡ None)) (sym again) s.said.sound;

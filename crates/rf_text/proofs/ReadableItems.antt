@@ -13,6 +13,7 @@ use Rattle.ir_types.specs.declared.func.Block.{Block}
 use Rattle.ir_types.specs.declared.func.Func.{Func}
 use Rattle.ir_types.specs.declared.module.Item.{Item}
 use Rattle.ir_types.specs.declared.module.Item.TheVariants as items
+use Rattle.ir_types.specs.Formed as formed
 use Rattle.ir_line.specs.declared.head.Head.{Head}
 use Rattle.ir_line.specs.declared.kept.Kept.{Kept}
 use Rattle.ir_line.specs.declared.stmt.Stmt.{Stmt}
@@ -45,9 +46,12 @@ use Rattle.ir_types_check.proofs.ReadNames.{onto}
 use Rattle.ir_types_check.proofs.ReadModule.{EachItem, IsFineLine, IsFineItem, IsFineName, IsFuncOf, IsItemOf}
 use Rattle.rf_text.specs.Headed.{is_local_name, is_returned, is_written, IsParam, IsHead}
 use Rattle.rf_text.specs.KeptParts.{IsKeptPart, IsBefore}
-use Rattle.rf_text.specs.Shown.{IsPoisonIfPointer, is_call}
+use Rattle.rf_text.specs.Shown.{is_call}
+use Rattle.ir_types.specs.Formed.{IsPoisonIfPointer}
 use Rattle.rf_text.specs.ModuleForms.{kept_at}
-use Rattle.rf_text.specs.Printable.{is_plain, gives, IsPlainInst, IsPlainBlock, IsPlainFunc, IsPlainLine, IsPlainItem, global_before, globals_in, in_front, tops_in}
+use Rattle.rf_text.specs.Printable.{IsPlainLine, global_before, globals_in, in_front, tops_in}
+use Rattle.rf_text.proofs.PlainItems.{gives, IsPlainInst, IsPlainBlock, IsPlainFunc, IsPlainItem, func_formed}
+use Rattle.ir_types.specs.Formed.{is_plain}
 use Rattle.rf_text.specs.OpaqueText.{IsOpaqueText, opaque_forms, opaque_name}
 use Rattle.rf_text.proofs.Kept.{kept_again, kept_is, kept_by_text}
 use Rattle.rf_text.proofs.HeadsFound.{symbol_name, words_front}
@@ -258,6 +262,23 @@ module _ (names : List (List ℕ)) (other : Bool) where
     items_plain (item.Kept n kept ∷ xs) (items.Func f ∷ is) zip all little = absurd zip.0
     items_plain (item.Func n head body ∷ xs) (items.Kept text ∷ is) zip all little = absurd zip.0
     items_plain (item.Func n head body ∷ xs) (items.Opaque text ∷ is) zip all little = absurd zip.0
+
+    -- whatever the layout, names, results and literals of pointers are plain
+    pub items_formed : (xs : List DraftItem) (is : List Item) → AllZip IsOf xs is → All IsRead xs → All formed.IsPlainItem is
+    items_formed [] [] zip all = All-nil formed.IsPlainItem
+    items_formed [] (i ∷ is) zip all = absurd zip
+    items_formed (x ∷ xs) [] zip all = absurd zip
+    items_formed (item.Kept n kept ∷ xs) (items.Kept text ∷ is) zip all = All-cons formed.IsPlainItem (items.Kept text) is tt (items_formed xs is zip.1 (All-tail IsRead (item.Kept n kept) xs all))
+    items_formed (item.Func n head body ∷ xs) (items.Func f ∷ is) zip all =
+        All-cons formed.IsPlainItem (items.Func f) is (func_formed f (func_plain head f (All-head IsRead (item.Func n head body) xs all).headed zip.0)) (items_formed xs is zip.1 (All-tail IsRead (item.Func n head body) xs all))
+    items_formed (item.Opaque n name text ∷ xs) (items.Opaque said ∷ is) zip all =
+        All-cons formed.IsPlainItem (items.Opaque said) is tt (items_formed xs is zip.1 (All-tail IsRead (item.Opaque n name text) xs all))
+    items_formed (item.Opaque n name text ∷ xs) (items.Kept said ∷ is) zip all = absurd zip.0
+    items_formed (item.Opaque n name text ∷ xs) (items.Func f ∷ is) zip all = absurd zip.0
+    items_formed (item.Kept n kept ∷ xs) (items.Opaque text ∷ is) zip all = absurd zip.0
+    items_formed (item.Kept n kept ∷ xs) (items.Func f ∷ is) zip all = absurd zip.0
+    items_formed (item.Func n head body ∷ xs) (items.Kept text ∷ is) zip all = absurd zip.0
+    items_formed (item.Func n head body ∷ xs) (items.Opaque text ∷ is) zip all = absurd zip.0
 
     -- ---- names
 

@@ -48,7 +48,10 @@ use Rattle.rf_text.specs.Headed.{IsHead, first_name}
 use Rattle.rf_text.specs.Written.{shown_global}
 use Rattle.rf_text.specs.ModuleForms.{kept_at, item_forms, more_items_forms, items_forms, module_forms}
 use Rattle.rf_text.specs.OpaqueText.{opaque_forms, name_in, opaque_in}
-use Rattle.rf_text.specs.Printable.{has_function, IsAllowed, IsAllowedBlock, IsAllowedItem, IsKeptOpaque, IsPrintable, ids_from, IsNumbered}
+use Rattle.rf_text.specs.Printable.{has_function, IsAllowed, IsAllowedBlock, IsAllowedItem, IsKeptOpaque, IsPrintable, IsPrintableItem, ids_from, IsNumbered}
+use Rattle.rf_text.proofs.PlainItems.{IsPlainItem, item_printable}
+use Rattle.rf_text.proofs.FunctionNames.{names_apart}
+use Rattle.ir_types.specs.Formed.{IsPlain}
 use Rattle.rf_text.specs.Reads.{Reads}
 use Rattle.rf_text.proofs.Cut as cuts
 use Rattle.rf_text.proofs.Cut.{Cut, text_cut}
@@ -59,7 +62,7 @@ use Rattle.rf_text.proofs.Publics.{publics, SaySame, seen_same, publics_append, 
 use Rattle.rf_text.proofs.ReadableHeads.{first_of, name_of_line}
 use Rattle.rf_text.proofs.ReadableLines.{form_is_read}
 use Rattle.rf_text.proofs.ReadableForms.{body_silent, gap_silent}
-use Rattle.rf_text.proofs.ReadableItems.{was_kept, is_kept, IsReadAt, IsRead, IsLocal, IsFree, IsFreeStmt, free_args, items_are, IsOf, IsFunc, IsMade, IsUsed, IsNamed, items_plain, globals_are, IsSymbol, globals_named, tops_are}
+use Rattle.rf_text.proofs.ReadableItems.{was_kept, is_kept, IsReadAt, IsRead, IsLocal, IsFree, IsFreeStmt, free_args, items_are, IsOf, IsFunc, IsMade, IsUsed, IsNamed, items_plain, items_formed, globals_are, IsSymbol, globals_named, tops_are}
 
 -- ---- items that were read
 
@@ -311,7 +314,7 @@ printable_of xs m little k =
     let zip : AllZip (IsOf names other m.globals) xs m.items = k.is.items_are in
     let globals : m.globals ≡ draft_globals xs = k.is.globals_are in
     record {
-      items = items_plain names other m.globals xs m.items zip k.read (sym k.is.big_endian ∙ little);
+      items = All-weaker IsPlainItem IsPrintableItem item_printable m.items (items_plain names other m.globals xs m.items zip k.read (sym k.is.big_endian ∙ little));
       globals = globals ∙ globals_are names other m.globals xs m.items zip k.read;
       named = subst (All (IsSymbol names other)) (sym globals) (globals_named names other xs k.read);
       once = subst (AllPairs (λ (a b : List ℕ). a ≡ b → ⊥)) (tops_are names other m.globals xs m.items zip k.read) k.is.apart;
@@ -320,6 +323,21 @@ printable_of xs m little k =
       pointers = function_pointers names other m.globals xs m.items zip k.read;
       little_endian = little;
     }
+
+plain_of : (xs : List DraftItem) (m : Module) (names : List (List ℕ)) (other : Bool) → Known xs m names other → IsPlain m
+plain_of xs m names other k = record {
+  items = items_formed names other m.globals xs m.items k.is.items_are k.read;
+  names = names_apart m.items (subst (AllPairs (λ (a b : List ℕ). a ≡ b → ⊥)) (tops_are names other m.globals xs m.items k.is.items_are k.read) k.is.apart);
+}
+
+pub read_plain : (bytes : List ℕ) (m : Module) → Reads bytes m → IsPlain m
+read_plain bytes m r =
+    let known : Outlook = outlook_of (forms_of (lines_of bytes)) in
+    let sound : All IsSound (lines_of bytes) = faultless 1 (lines_of bytes) r.says.sound in
+    let c : Cut (outlook_of (forms_of (lines_of bytes))) 1 (lines_of bytes) r.items = text_cut bytes r.items r.says in
+    let read : All (IsRead (outlook_of (forms_of (lines_of bytes))).names (outlook_of (forms_of (lines_of bytes))).other_pointers) r.items = cut_read c sound in
+    plain_of r.items m (outlook_of (forms_of (lines_of bytes))).names (outlook_of (forms_of (lines_of bytes))).other_pointers
+    (known_of r.items m (outlook_of (forms_of (lines_of bytes))).names (outlook_of (forms_of (lines_of bytes))).other_pointers read r.named)
 
 read_printable : (bytes : List ℕ) (m : Module) → Reads bytes m → m.big_endian_line ≡ None → IsPrintable m
 read_printable bytes m r little =

@@ -22,7 +22,9 @@ use Rattle.ir_types_check.proofs.ReadNames.{Apart, onto, given_names, name_part,
 use Rattle.ir_types_check.proofs.ReadLinks.{FoundCases}
 use Rattle.rf_text.specs.Headed.{is_local_name, is_written}
 use Rattle.rf_text.specs.Shown.{is_call}
-use Rattle.rf_text.specs.Printable.{is_plain, in_front, written_names, gives}
+use Rattle.rf_text.specs.Printable.{in_front, written_names}
+use Rattle.rf_text.proofs.PlainItems.{gives}
+use Rattle.ir_types.specs.Formed.{is_plain}
 
 -- ---- plain names
 

@@ -34,11 +34,13 @@ use Rattle.ir_print.specs.Text.{is_function, text_of}
 use Rattle.ir_read.specs.Outlook.{has}
 use Rattle.ir_read.specs.Items.{barred_in, has_other_pointers}
 use Rattle.rf_text.specs.Headed.{IsParam, shown_name, shown_param, shown_params, shown_head, first_name}
-use Rattle.rf_text.specs.Shown.{IsPoisonIfPointer}
+use Rattle.ir_types.specs.Formed.{IsPoisonIfPointer}
 use Rattle.rf_text.specs.Written.{shown_text, shown_block, shown_global, written, arg_of, op_of, line_blocks, result_of, stmt_of, cases_of, first_ty, more_forms, forms_of}
 use Rattle.rf_text.specs.ModuleForms.{label_forms, insts_forms, more_blocks_forms, blocks_forms, func_forms, item_forms, gap_forms, more_items_forms, items_forms, module_forms}
 use Rattle.rf_text.specs.OpaqueText.{opaque_forms, opaque_name, opaque_in}
-use Rattle.rf_text.specs.Printable.{is_plain, in_front, written_names, IsPlainInst, IsPlainBlock, IsPlainFunc, IsPlainItem, globals_in, global_before, tops_in, IsAllowed, IsAllowedBlock, IsAllowedItem, has_function, IsPrintable, ids_from, IsNumbered, IsCountedItem, IsCounted, IsKeptOpaque}
+use Rattle.rf_text.specs.Printable.{HasNoCall, IsPrintableFunc, IsPrintableItem, in_front, written_names, globals_in, global_before, tops_in, IsAllowed, IsAllowedBlock, IsAllowedItem, has_function, IsPrintable, ids_from, IsNumbered, IsCountedItem, IsCounted, IsKeptOpaque}
+use Rattle.rf_text.specs.KeptParts.{IsAttributes}
+use Rattle.rf_text.specs.Shown.{is_call}
 use Rattle.rf_text.specs.ModuleForms.{kept_at}
 use Rattle.rf_text.specs.Reads.{Reads}
 use Rattle.rf_text.specs.Spelled.{Spelled}
@@ -168,35 +170,24 @@ module _ (ids : List Id) where
   names_same (Value id ty name ∷ xs) = ap (in_front name) (names_same xs)
   names_same (Label name ∷ xs) = ap (in_front name) (names_same xs)
 
-  plain_inst : (i : Inst) → IsPlainInst i → IsPlainInst (new_inst ids i)
-  plain_inst i h = record { named = h.named; silent = h.silent; pointers = every_map IsPoisonIfPointer IsPoisonIfPointer (new_opd ids) one i.opds h.pointers; other = h.other }
-    where
-      one : (o : Opd) → IsPoisonIfPointer o → IsPoisonIfPointer (new_opd ids o)
-      one (Val x) h = tt
-      one (Lit l) h = h
-      one (Sym g) h = tt
+  calls_none : (b : Block) → HasNoCall b → HasNoCall (new_block ids b)
+  calls_none b h = every_map (λ (i : Inst). is_call i.op ≡ false) (λ (i : Inst). is_call i.op ≡ false) (new_inst ids) (λ i k. k) b.insts h
 
-  plain_block : (b : Block) → IsPlainBlock b → IsPlainBlock (new_block ids b)
-  plain_block b h = record { named = h.named; insts = every_map IsPlainInst IsPlainInst (new_inst ids) plain_inst b.insts h.insts }
-
-  plain_func : (f : Func) → IsPlainFunc f → IsPlainFunc (new_func ids f)
-  plain_func f h = record {
+  printable_func : (f : Func) → IsPrintableFunc f → IsPrintableFunc (new_func ids f)
+  printable_func f h = record {
     header = record {
       in_front = h.header.in_front;
-      returned = h.header.returned;
-      named = h.header.named;
-      typed = every_map IsParam IsParam (new_param ids) (λ p k. record { typed = k.typed; attributed = k.attributed }) f.params h.header.typed;
+      attributed = every_map (λ (p : Param). IsAttributes p.noalias p.attrs) (λ (p : Param). IsAttributes p.noalias p.attrs) (new_param ids) (λ p k. k) f.params h.header.attributed;
       behind = h.header.behind;
     };
-    params = every_map (λ (p : Param). is_plain p.name ≡ true) (λ (p : Param). is_plain p.name ≡ true) (new_param ids) (λ p k. k) f.params h.params;
-    blocks = every_map IsPlainBlock IsPlainBlock (new_block ids) plain_block f.blocks h.blocks;
+    calls = every_map HasNoCall HasNoCall (new_block ids) calls_none f.blocks h.calls;
     once = subst (AllPairs (λ (a b : List ℕ). a ≡ b → ⊥)) (sym (ap written_names (named_new ids f) ∙ names_same (named_of f))) h.once;
   }
 
-  plain_item : (i : Item) → IsPlainItem i → IsPlainItem (new_item ids i)
-  plain_item (Kept text) h = h
-  plain_item (Opaque text) h = h
-  plain_item (FuncItem f) h = plain_func f h
+  printable_item : (i : Item) → IsPrintableItem i → IsPrintableItem (new_item ids i)
+  printable_item (Kept text) h = h
+  printable_item (Opaque text) h = h
+  printable_item (FuncItem f) h = printable_func f h
 
   globals_same : (items : List Item) → globals_in (map (new_item ids) items) ≡ globals_in items
   globals_same [] = refl
@@ -284,7 +275,7 @@ module _ (m : Module) (formed : IsFormed m) where
 
   pub renumbered_printable : IsPrintable m → IsPrintable (renumbered m)
   renumbered_printable p = record {
-    items = every_map (ids_of m) IsPlainItem IsPlainItem (new_item (ids_of m)) (plain_item (ids_of m)) m.items p.items;
+    items = every_map (ids_of m) IsPrintableItem IsPrintableItem (new_item (ids_of m)) (printable_item (ids_of m)) m.items p.items;
     globals = p.globals ∙ sym (globals_same (ids_of m) m.items);
     named = p.named;
     once = subst (AllPairs (λ (a b : List ℕ). a ≡ b → ⊥)) (sym (tops_same (ids_of m) m.items)) p.once;

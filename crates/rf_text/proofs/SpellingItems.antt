@@ -30,7 +30,8 @@ use Rattle.ir_types_check.proofs.Handed.{LocalMeaning, TopMeaning, function_of, 
 use Rattle.rf_text.specs.Headed.{shown_params, shown_head}
 use Rattle.rf_text.specs.ModuleForms.{kept_at}
 use Rattle.rf_text.specs.OpaqueText.{opaque_name}
-use Rattle.rf_text.specs.Printable.{IsPlainFunc, IsPrintable, IsNumbered, IsCounted, globals_in}
+use Rattle.rf_text.specs.Printable.{IsPrintable, IsNumbered, IsCounted, globals_in}
+use Rattle.rf_text.proofs.PlainItems.{IsPlainFunc, plain_items}
 use Rattle.rf_text.specs.Spelled.{IsWrittenParam, IsHeaderOf, AreBlocks}
 use Rattle.rf_text.proofs.NamedFound.{HasGlobals, blocks_are_read, all_end}
 use Rattle.rf_text.proofs.NamedFunction as named
@@ -338,7 +339,7 @@ low_first m (item.Func n head body ∷ xs) (items.Opaque text ∷ is) base all z
 pub items_named : (m : Module) (xs : List DraftItem) → IsFormed m → IsPrintable m → IsNumbered m → IsCounted m → AllZip (IsDraftOf m.globals) xs m.items → DraftNames xs m
 unfolding module_of
 items_named m xs formed printable numbered few zip =
-    let all : AllStand m 0 m.items = all_stand m m.items 0 (length (ids_of m)) formed.items printable.items few numbered in
+    let all : AllStand m 0 m.items = all_stand m m.items 0 (length (ids_of m)) formed.items (plain_items m formed printable) few numbered in
     let once : Once (tops_from 0 m.items) = tops_once m.items printable.once in
     let names : HasTops (tops_from 0 m.items) once ([] ++ globals_in m.items) (with_items (record { scope = []; globals = [] }) xs) =
     tops_said m.globals (tops_from 0 m.items) once xs m.items 0 (record { scope = []; globals = [] }) (have_names m xs m.items 0 all zip) zip refl refl in

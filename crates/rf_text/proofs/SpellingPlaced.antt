@@ -20,7 +20,7 @@ use Rattle.ir_read.specs.Numbers.{is_unnamed, is_next, after_name, after_result,
 use Rattle.ir_read.specs.Position.{is_between, is_cases, may_stand, spot_after, opened, after_label, after_stmt, after_case, after_cases}
 use Rattle.ir_read.specs.Function.{is_foreign, is_outside, after_inst}
 use Rattle.ir_read.proofs.Placing.{Place, Opening, no_block, front, place, body_line, body_lines}
-use Rattle.rf_text.specs.Printable.{is_plain}
+use Rattle.ir_types.specs.Formed.{is_plain}
 use Rattle.rf_text.specs.Spelled.{solid, MayWrite, AsShown, LeftOut, IsWrittenParam}
 use Rattle.rf_text.specs.Written.{op_of, shown_text, shown_block, stmt_of, more_forms, forms_of}
 use Rattle.rf_text.proofs.PlacedBlocks.{AreFitting, label_stands}

@@ -64,6 +64,7 @@ use Rattle.rf_text.proofs.SpelledOrder.{form_of}
 use Rattle.rf_text.proofs.SpellingItems.{IsDraftOf, all_begin, zip_length, items_named}
 use Rattle.rf_text.proofs.SpellingPlaced.{ParamsTaken, params_taken, blocks_fit, LinesStand, marks_stand, lines_free}
 use Rattle.rf_text.proofs.TextLines.{no_fault}
+use Rattle.rf_text.proofs.PlainItems.{plain_items}
 
 -- ---- lines of a function
 
@@ -393,7 +394,7 @@ spelled_items bytes m s formed =
     let same : outlook_of (module_forms m) ≡ outlook_of (forms_of (lines_of bytes)) = same_outlook bytes m s.laid s.sound in
     let free : (o : Opd) → IsAllowed m o → IsFree (barred_in (forms_of (lines_of bytes))) m.globals o = λ o h. subst (λ (k : Known). IsFree k.names m.globals o) same (free_of m o h) in
     let fits : AreFittingItems (outlook_of (forms_of (lines_of bytes))) m.globals m.items =
-    items_fit m (outlook_of (forms_of (lines_of bytes))) free m.items formed.items s.printable.items s.printable.operands s.counted (pairs_apart _ formed.once) (λ h. ap (λ (k : Known). k.other_pointers) (sym same) ∙ s.printable.pointers h) in
+    items_fit m (outlook_of (forms_of (lines_of bytes))) free m.items formed.items (plain_items m formed s.printable) s.printable.operands s.counted (pairs_apart _ formed.once) (λ h. ap (λ (k : Known). k.other_pointers) (sym same) ∙ s.printable.pointers h) in
     let r : ItemsRemain (outlook_of (forms_of (lines_of bytes))) m.globals (lines_of bytes) 1 [] (lines_of bytes) m.items =
     items_remain (outlook_of (forms_of (lines_of bytes))) m.globals (lines_of bytes) s.laid same s.sound fits (ending m (outlook_of (forms_of (lines_of bytes))) m.globals (lines_of bytes) m.items formed.items) 1 [] (omega arith) refl in
     record {

@@ -20,7 +20,8 @@ use Rattle.ir_read.specs.Opaque.{joined as between_feeds}
 use Rattle.rf_text.specs.LinesOf.{joined, is_line}
 use Rattle.rf_text.specs.ModuleForms.{kept_at, item_forms, gap_forms, more_items_forms, items_forms, module_forms}
 use Rattle.rf_text.specs.OpaqueText.{opaque_forms, IsOpaqueText}
-use Rattle.rf_text.specs.Printable.{IsPlainItem, IsPrintable, IsCountedItem, IsCounted}
+use Rattle.rf_text.specs.Printable.{IsPrintable, IsCountedItem, IsCounted}
+use Rattle.rf_text.proofs.PlainItems.{IsPlainItem, plain_items}
 use Rattle.rf_text.specs.TextLines.{TextLines}
 use Rattle.rf_text.proofs.Insts.{heads, tails, none_more, joined_append}
 use Rattle.rf_text.proofs.InstsBodies.{form_sound}
@@ -136,7 +137,7 @@ all_lines (l ∷ ls) all = rw (sound_line l (All-head (λ l. fault_of l ≡ None
 
 pub text_lines : (m : Module) → IsFormed m → IsPrintable m → IsCounted m → TextLines m
 text_lines m formed printable few =
-    let s : Said (text_of m) (module_forms m) = items_said m printable.named m.items formed.items printable.items (once_ids (ids_of_items m.items) formed.once) few in
+    let s : Said (text_of m) (module_forms m) = items_said m printable.named m.items formed.items (plain_items m formed printable) (once_ids (ids_of_items m.items) formed.once) few in
     record {
       lines = s.lines;
       whole = s.whole;

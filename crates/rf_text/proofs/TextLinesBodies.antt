@@ -22,7 +22,7 @@ use Rattle.ir_read.specs.Forms.{form_in, inside_after, forms_from}
 use Rattle.rf_text.specs.Headed.{HeaderAgain, header_line, first_name, shown_head}
 use Rattle.rf_text.specs.LinesOf.{joined}
 use Rattle.rf_text.specs.ModuleForms.{label_forms, insts_forms, more_blocks_forms, blocks_forms, func_forms}
-use Rattle.rf_text.specs.Printable.{IsPlainInst, IsPlainFunc}
+use Rattle.rf_text.proofs.PlainItems.{IsPlainInst, IsPlainFunc}
 use Rattle.rf_text.specs.Printed.{Printed, IsReadAgain}
 use Rattle.rf_text.specs.Written.{cases_of, first_ty, more_forms, forms_of}
 use Rattle.rf_text.proofs.HeadsAgain.{header_again}

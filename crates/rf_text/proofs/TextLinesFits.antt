@@ -21,7 +21,7 @@ use Rattle.ir_types.specs.Formed.{opd_ty, IsTarget, IsIncoming, IsFormedInst}
 use Rattle.ir_print.specs.declared.names.Local.{Local}
 use Rattle.ir_print.specs.Names.{Named, result_named, insts_named, blocks_named, params_named, named_of, counted, labels_from, names_of, is_store, is_void}
 use Rattle.rf_text.specs.Shown.{shown_ty, op_blocks, Fits}
-use Rattle.rf_text.specs.Printable.{IsPlainInst}
+use Rattle.rf_text.proofs.PlainItems.{IsPlainInst}
 use Rattle.rf_text.proofs.TextLinesOnce.{NamedOnce, Found, found, given_shown}
 use Rattle.rf_text.proofs.TextLinesTyped.{Solid, typed_solid}
 use Rattle.rf_text.proofs.TextLinesTypes.{func_leads, gives_id}

@@ -13,7 +13,9 @@ use Rattle.ir_print.specs.Names.{Named, Value, Label, result_named, insts_named,
 use Rattle.rf_text.specs.Headed.{is_named, IsHeaded}
 use Rattle.rf_text.specs.Shown.{IsLocalName, Shown}
 use Rattle.rf_text.specs.Printed.{IsShownLabel}
-use Rattle.rf_text.specs.Printable.{is_plain, name_of, IsPlainInst, IsPlainBlock, IsPlainFunc}
+use Rattle.rf_text.specs.Printable.{name_of}
+use Rattle.rf_text.proofs.PlainItems.{IsPlainInst, IsPlainBlock, IsPlainFunc}
+use Rattle.ir_types.specs.Formed.{is_plain}
 use Rattle.rf_text.proofs.HeadsShown.{counted_most, all_shown}
 
 -- ---- written names are plain

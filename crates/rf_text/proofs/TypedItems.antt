@@ -12,6 +12,7 @@ use Rattle.ir_types_check.specs.Answers.{◌>>=◌}
 use Rattle.ir_types_check.specs.Scope.{Scope}
 use Rattle.ir_types_check.specs.Typed.{item_typed, items_typed}
 use Rattle.ir_types_check.proofs.Handed.{TopMeaning}
+use Rattle.rf_text.proofs.PlainItems.{plain_items}
 use Rattle.rf_text.specs.Printable.{IsPrintable, IsNumbered, IsCounted}
 use Rattle.rf_text.proofs.NamedModule.{AllStand, all_stand}
 use Rattle.rf_text.proofs.SpellingItems.{IsDraftOf}
@@ -36,4 +37,4 @@ all_typed m tops (item.Func n head body ∷ xs) (items.Opaque text ∷ is) base 
 
 pub items_are_typed : (m : Module) (tops : Scope TopMeaning) (xs : List DraftItem) → IsFormed m → IsPrintable m → IsNumbered m → IsCounted m → AllZip (IsDraftOf m.globals) xs m.items → items_typed tops xs ≡ Ok tt
 items_are_typed m tops xs formed printable numbered few zip =
-    all_typed m tops xs m.items 0 (all_stand m m.items 0 (length (ids_of m)) formed.items printable.items few numbered) (once_ids (ids_of_items m.items) formed.once) zip
+    all_typed m tops xs m.items 0 (all_stand m m.items 0 (length (ids_of m)) formed.items (plain_items m formed printable) few numbered) (once_ids (ids_of_items m.items) formed.once) zip

@@ -30,7 +30,7 @@ use Rattle.ir_types_check.specs.Typed.{targets, case_targets, sources_at, with_e
 use Rattle.ir_types_check.proofs.Handed.{LocalMeaning, TopMeaning, LinePlace, LocalNames}
 use Rattle.ir_types_check.proofs.BodyBlocks.{IsWholeBlock}
 use Rattle.ir_types_check.proofs.BodyEdges.{hits, hits_append, hits_cons, edges_count, edges_other, length_edges, insts_targets, row_at, graph_rows, no_sources}
-use Rattle.rf_text.specs.Printable.{IsPlainInst, IsPlainBlock, IsPlainFunc}
+use Rattle.rf_text.proofs.PlainItems.{IsPlainInst, IsPlainBlock, IsPlainFunc}
 use Rattle.rf_text.specs.Shown.{is_call}
 use Rattle.rf_text.specs.Spelled.{IsHeaderOf, AreBlocks}
 use Rattle.rf_text.specs.Written.{op_of, stmt_of, more_forms}

@@ -36,6 +36,12 @@ pub record IsParam (p : Param) : Type 0 where
   pub typed : is_value p.ty ≡ true
   pub attributed : IsAttributes p.noalias p.attrs
 
+-- the parts of a header that are kept as bytes
+pub record IsKeptHeader (before : List ℕ) (params : List Param) (after : List ℕ) : Type 0 where
+  pub in_front : IsBefore before
+  pub attributed : All (λ (p : Param). IsAttributes p.noalias p.attrs) params
+  pub behind : IsKeptPart after
+
 -- the parts of a header of the profile
 pub record IsHeader (before : List ℕ) (ret : Ty) (name : List ℕ) (params : List Param) (after : List ℕ) : Type 0 where
   pub in_front : IsBefore before

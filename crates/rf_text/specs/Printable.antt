@@ -1,6 +1,6 @@
--- Modules whose names and kept parts are such as text can have. Every module that was read is one, as long as its layout has the low
--- byte first; and the text of one that is formed reads as the same module.
-use Rattle.std.specs.Prelude.{◌≡◌, ℕ, zero, suc, ◌+◌, ◌^◌, ◌<◌, Bool, true, false, not, ◌&&◌, Option, None, Some, List, [], ◌∷◌, length}
+-- Modules whose kept parts and items are such as text can have, each name given once. Every module that was read is one, as long as its
+-- layout has the low byte first; and the text of one that is formed reads as the same module.
+use Rattle.std.specs.Prelude.{◌≡◌, ℕ, zero, suc, ◌+◌, ◌^◌, ◌<◌, Bool, true, false, Option, None, Some, List, [], ◌∷◌, length}
 use Rattle.std.specs.List.{All, AllPairs}
 use Rattle.ir_lex.specs.Tokens.{is_name}
 use Rattle.ir_types.specs.declared.id.Id.{Id}
@@ -15,22 +15,17 @@ use Rattle.ir_types.specs.declared.module.Item.TheVariants.{Kept, Opaque, Func a
 use Rattle.ir_types.specs.declared.module.Module.{Module}
 use Rattle.ir_types.specs.Formed.{ids_of}
 use Rattle.ir_line.specs.declared.line.Line.TheVariants as line
-use Rattle.ir_print.specs.Names.{Named, Value, Label, named_of, is_store, is_void}
+use Rattle.ir_print.specs.Names.{Named, Value, Label, named_of}
 use Rattle.ir_read.specs.Forms.{form_in}
 use Rattle.ir_read.specs.Outlook.{has}
 use Rattle.ir_read.specs.Items.{barred_in, has_other_pointers}
-use Rattle.rf_text.specs.Headed.{IsHeader}
+use Rattle.rf_text.specs.Headed.{IsKeptHeader}
 use Rattle.rf_text.specs.OpaqueText.{IsOpaqueText, opaque_forms, opaque_name, opaque_in}
-use Rattle.rf_text.specs.Shown.{IsPoisonIfPointer, is_call}
+use Rattle.rf_text.specs.Shown.{is_call}
 use Rattle.rf_text.specs.Written.{shown_global}
 use Rattle.rf_text.specs.ModuleForms.{kept_at, module_forms}
 
 -- ---- names in a function
-
--- a written name, if there is one, is a plain one: neither quoted nor a number
-abbrev pub is_plain : Option (List ℕ) → Bool
-is_plain None = true
-is_plain (Some name) = is_name name
 
 -- the name that is written of a value or a block
 abbrev pub name_of : Named → Option (List ℕ)
@@ -47,25 +42,13 @@ abbrev pub written_names : List Named → List (List ℕ)
 written_names [] = []
 written_names (n ∷ ns) = in_front (name_of n) (written_names ns)
 
--- whether an instruction gives a value
-abbrev pub gives : Inst → Bool
-gives i = not (is_void i.ty) && not (is_store i.op)
+-- no instruction is a call
+abbrev pub HasNoCall : Block → Type 0
+HasNoCall b = All (λ (i : Inst). is_call i.op ≡ false) b.insts
 
-pub record IsPlainInst (i : Inst) : Type 0 where
-  pub named : is_plain i.name ≡ true
-  -- what gives no value has no name
-  pub silent : gives i ≡ false → i.name ≡ None
-  pub pointers : All IsPoisonIfPointer i.opds
-  pub other : is_call i.op ≡ false
-
-pub record IsPlainBlock (b : Block) : Type 0 where
-  pub named : is_plain b.name ≡ true
-  pub insts : All IsPlainInst b.insts
-
-pub record IsPlainFunc (f : Func) : Type 0 where
-  pub header : IsHeader f.before f.ret f.name f.params f.after
-  pub params : All (λ (p : Param). is_plain p.name ≡ true) f.params
-  pub blocks : All IsPlainBlock f.blocks
+pub record IsPrintableFunc (f : Func) : Type 0 where
+  pub header : IsKeptHeader f.before f.params f.after
+  pub calls : All HasNoCall f.blocks
   -- no name is written twice
   pub once : AllPairs (λ (a b : List ℕ). a ≡ b → ⊥) (written_names (named_of f))
 
@@ -77,10 +60,10 @@ pub record IsPlainLine (text : List ℕ) : Type 0 where
   pub whole : (kept_at text).text ≡ text
   pub little_endian : (kept_at text).big_endian ≡ false
 
-abbrev pub IsPlainItem : Item → Type 0
-IsPlainItem (Kept text) = IsPlainLine text
-IsPlainItem (Opaque text) = IsOpaqueText text
-IsPlainItem (FuncItem f) = IsPlainFunc f
+abbrev pub IsPrintableItem : Item → Type 0
+IsPrintableItem (Kept text) = IsPlainLine text
+IsPrintableItem (Opaque text) = IsOpaqueText text
+IsPrintableItem (FuncItem f) = IsPrintableFunc f
 
 -- the name that a kept line gives, in front of others, where it is a global
 abbrev pub global_before : Bool → Option (List ℕ) → List (List ℕ) → List (List ℕ)
@@ -128,7 +111,7 @@ has_function (_ ∷ items) = has_function items
 -- ---- the module
 
 pub record IsPrintable (m : Module) : Type 0 where
-  pub items : All IsPlainItem m.items
+  pub items : All IsPrintableItem m.items
   -- the globals are those of the kept lines, by plain names
   pub globals : m.globals ≡ globals_in m.items
   pub named : All (λ g. is_name g ≡ true) m.globals

@@ -14,7 +14,7 @@ use Rattle.ir_types.specs.declared.op.Op.TheVariants.{Phi, Call}
 use Rattle.ir_types.specs.declared.inst.Inst.{Inst}
 use Rattle.ir_types.specs.Available.{op_targets}
 use Rattle.ir_types.specs.Typed.{IsTyped}
-use Rattle.ir_types.specs.Formed.{IsOpd}
+use Rattle.ir_types.specs.Formed.{IsOpd, IsPoisonIfPointer}
 use Rattle.ir_print.specs.declared.names.Local.{Local}
 use Rattle.ir_print.specs.Names.{Names, local_of, is_store, is_void}
 
@@ -38,11 +38,6 @@ shown_ty ns gs (Sym g) = if nat_lt g (length gs) then Some Ptr else None
 abbrev pub op_blocks : Op → List ℕ
 op_blocks (Phi blocks) = blocks
 op_blocks op = op_targets op
-
--- a pointer's literal is poison
-abbrev pub IsPoisonIfPointer : Opd → Type 0
-IsPoisonIfPointer (Lit literal) = literal.ty ≡ Ptr → literal.lanes ≡ None ∷ []
-IsPoisonIfPointer o = Unit {0}
 
 abbrev pub is_call : Op → Bool
 is_call (Call site) = true

@@ -1,0 +1,5 @@
+use Rattle.rf_text.proofs.readable.read_modules_are_plain.Goals as goal
+use Rattle.rf_text.proofs.ReadableModule.{read_plain}
+
+pub returns : goal.returns
+returns c = read_plain
