@@ -1,0 +1,2 @@
+-- Lemmas on reach.
+pub mod Trailing
