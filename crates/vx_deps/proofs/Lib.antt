@@ -1,2 +1,5 @@
 -- Lemmas on reach.
 pub mod Trailing
+pub mod Standings
+pub mod Steps
+pub mod Stores

@@ -127,8 +127,11 @@ module _ (insts : List Inst) (once : Once (inst_ids insts)) where
           ap (λ u. reverse (x ∷ back n insts u)) e.0 ∙ ap (λ l. reverse (x ∷ l)) (back_none n insts) ∙ ap (λ v. v ∷ []) (sym (id_is x i insts h.1))
           ∙ sym (ap (λ l. ids_of (last_of (suc n) l)) e.1 ∙ ap ids_of (one_more n [] i) ∙ ap (λ l. ids_of (l ++ i ∷ [])) (nothing n))
         where
-          nothing : (k : ℕ) → last_of k ([] {A = Inst}) ≡ []
-          nothing k = ap (λ v. drop v ([] {A = Inst})) (omega arith)
+          zero_less : (k : ℕ) → 0 - k ≡ 0
+          zero_less k = omega arith
+
+          nothing : (k : ℕ) → last_of {A = Inst} k [] ≡ []
+          nothing k = ap (λ v. drop {A = Inst} v []) (zero_less k)
       by_end found (inr e) more =
           ap (λ u. reverse (x ∷ back n insts u)) e.1 ∙ reverse-append (x ∷ []) (back n insts (Some e.0)) ∙ ap (λ l. l ++ x ∷ []) (more e.0 (found_in e.0 insts e.3))
           ∙ ap (λ v. ids_of (last_of n (up_to e.0 insts)) ++ v ∷ []) (sym (id_is x i insts h.1)) ∙ sym (map-append (λ (k : Inst). k.id) (last_of n (up_to e.0 insts)) (i ∷ []))

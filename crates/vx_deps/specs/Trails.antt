@@ -20,8 +20,10 @@ abbrev pub rest : List Inst → Trail → List Id
 rest insts t = t.passed.items ++ back t.left insts t.next
 
 -- the trail that begins at an instruction
-abbrev pub start : Id → Trail
-start x = record { passed = record { items = [] }; next = Some x; left = 256 }
+pub record IsStart (x : Id) (t : Trail) : Type 0 where
+  pub passed : t.passed.items ≡ []
+  pub next : t.next ≡ Some x
+  pub left : t.left ≡ 256
 
 -- an instruction was passed
 pub record Passes (x : Id) (before : Option Id) (old new : Trail) : Type 0 where

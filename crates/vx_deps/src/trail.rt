@@ -10,7 +10,7 @@ ghost use Rattle.ir_types.specs.Formed.{IsFormed};
 ghost use Rattle.vx_view.specs.Blocks.{block_at};
 ghost use Rattle.vx_view.specs.Views.{StandsFor, IsAskable, Asks};
 ghost use Rattle.vx_deps.specs.Reach.{IsIn, LooksBack, looked_ids, LooksAt};
-ghost use Rattle.vx_deps.specs.Trails.{start, back, rest, IsStep, NamesBack, Passes};
+ghost use Rattle.vx_deps.specs.Trails.{IsStart, back, rest, IsStep, NamesBack, Passes};
 
 use crate::lookup::{before, is_there};
 use ir_types::{Id, Ids, OutOfMemory};
@@ -35,7 +35,7 @@ pub(crate) struct Trail {
 impl Trail {
     /// The trail that begins at an instruction.
     fn from(alloc: Global, id: Id) -> Trail
-        ensures { result ≡ start id }
+        ensures { IsStart id result }
     {
         Trail {
             passed: Vec::new(alloc),
