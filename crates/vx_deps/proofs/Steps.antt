@@ -101,6 +101,14 @@ begins x m t s place h = (
 pub asks_back : (x : Id) (m : Module) (t : Trail) → Leads x m t → (q : Question) → NamesBack t q → Backs x m q
 asks_back x m t leads q n place h = names_back (block_at m place) t (back 256 (block_at m place) (Some x)) (leads place h).0 q n
 
+module _ (x : Id) (m : Module) (old new : Trail) (leads : Leads x m old) where
+  pub leads_on : ((place : Place) → IsIn (block_at m place) old.next → IsStep (block_at m place) old new true) → Leads x m new
+  leads_on step place h = let l = leads place h in let s = step place l.1 in (sym s.0 ∙ l.0, s.1)
+
+  pub led : ((place : Place) → IsIn (block_at m place) old.next → IsStep (block_at m place) old new false) → (place : Place) → IsIn (block_at m place) (Some x) →
+      new.passed.items ≡ back 256 (block_at m place) (Some x)
+  led step place h = let l = leads place h in let s = step place l.1 in ap (λ (t : Trail). t.passed.items) s.1 ∙ sym s.0 ∙ l.0
+
 -- ---- what is looked at
 
 looked_by : (m : Module) → IsFormed m → (x : Id) (s : Standing) → found m x ≡ Some s → reverse (back 256 (block_at m s.place) (Some x)) ≡ looked_ids m x

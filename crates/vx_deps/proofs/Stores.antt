@@ -5,7 +5,7 @@ use Rattle.ir_types.specs.declared.module.Module.{Module}
 use Rattle.ir_types.specs.Available.{same_id}
 use Rattle.ir_types.proofs.Among.{same_itself}
 use Rattle.vx_view.specs.declared.question.Question.{Question}
-use Rattle.vx_deps.specs.Reach.{has, has_all, first_with, looked_ids, reach, LooksFor, LooksAt}
+use Rattle.vx_deps.specs.Reach.{has, has_all, first_with, parts, looked_ids, reach, LooksFor, LooksAt}
 
 -- those left are among all
 abbrev pub AreOf : List Id → List Id → Type 0
@@ -35,3 +35,14 @@ is_with m s left all ids e r h =
 pub is_without : (m : Module) (s : Id) (left all ids : List Id) → IsLeft m (s ∷ left) all → ids ≡ looked_ids m s → has_all ids all ≡ false → IsLeft m left all
 is_without m s left all ids e r h =
     ap (λ b. cond b (Some (looked_ids m s)) (first_with all (map (looked_ids m) left))) (sym h ∙ ap (λ l. has_all l all) r) ∙ e
+
+-- the first of those left, and the others
+pub parts_is : (xs ys : List Id) (x : Id) → Some (x, ys) ≡ parts xs → xs ≡ x ∷ ys
+parts_is [] ys x e = absurd (some_none e)
+  where
+    some_none : {A : Type 0} {a : A} → Some a ≡ None → ⊥
+    some_none e = cc
+parts_is (z ∷ xs) ys x e = let s = some_is e in ap (λ (p : Id × List Id). p.0 ∷ p.1) (sym s)
+  where
+    some_is : {A : Type 0} {a b : A} → Some a ≡ Some b → a ≡ b
+    some_is e = cc

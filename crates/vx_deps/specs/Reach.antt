@@ -32,6 +32,11 @@ abbrev pub has_all : List Id → List Id → Bool
 has_all ids [] = true
 has_all ids (s ∷ stores) = has ids s && has_all ids stores
 
+-- the first of some ids, and those after it
+abbrev pub parts : List Id → Option (Id × List Id)
+parts [] = None
+parts (x ∷ xs) = Some (x, xs)
+
 -- the first of some lists that has all the stores
 abbrev pub first_with : List Id → List (List Id) → Option (List Id)
 first_with stores [] = None

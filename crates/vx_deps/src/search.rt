@@ -2,12 +2,11 @@
 //!
 //! Want of memory is the only failure; the view may then have more notes, and is otherwise as before.
 
-ghost use Rattle.std.specs.Prelude.{◌≡◌, IfOk};
+ghost use Rattle.std.specs.Prelude.{◌≡◌, IfOk, option_map};
 ghost use Rattle.ir_types.specs.declared.module.Module.{Module};
 ghost use Rattle.ir_types.specs.Formed.{IsFormed};
 ghost use Rattle.vx_view.specs.Views.{StandsFor, IsAskable, Asks};
-ghost use Rattle.vx_deps.specs.Reach as view_of;
-ghost use Rattle.vx_deps.specs.Reach.{reach, has, has_all, as_reach, LooksFor, LooksAt};
+ghost use Rattle.vx_deps.specs.Reach.{reach, has, has_all, parts, as_reach, LooksFor};
 
 use crate::extent::Reach;
 use crate::trail::looked_at;
@@ -24,14 +23,24 @@ pub fn reach<V: View>(alloc: Global, view: &mut V, stores: &Ids) -> Result<Reach
 {
     let all = stores.as_slice();
     let mut left = all;
-    while let [store, more @ ..] = left {
-        let ids = looked_at(alloc, view, *store)?;
+    while let Some((store, more)) = parts(left) {
+        let ids = looked_at(alloc, view, store)?;
         if has_all(&ids, all) {
             return Ok(Reach::Near(ids));
         }
         left = more;
     }
     Ok(Reach::Far)
+}
+
+/// The first of some ids, and those after it.
+fn parts(ids: &[Id]) -> Option<(Id, &[Id])>
+    ensures { option_map (λ p. (p.0, p.1.now)) result ≡ parts ids.now }
+{
+    match ids {
+        [first, more @ ..] => Some((*first, more)),
+        [] => None,
+    }
 }
 
 /// Whether an id is among these.

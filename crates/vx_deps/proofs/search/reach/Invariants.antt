@@ -6,12 +6,12 @@ use Rattle.vx_deps.specs.Reach.{LooksFor}
 use Rattle.vx_deps.proofs.Stores.{AreOf, IsLeft}
 use Rattle.vx_deps.proofs.search.reach.Given as goal
 
-abbrev pub invariant-loop-left : goal.invariant-loop-left
-invariant-loop-left g l = record {
+abbrev pub invariant-loop-store : goal.invariant-loop-store
+invariant-loop-store g l = record {
   asks : Asks (λ m. LooksFor m l.all) (g.V.View.seen l.fn.view) (g.V.View.seen l.view);
   are : AreOf l.left l.all;
   left : (m : Module) → StandsFor (g.V.View.seen l.view) m → IsFormed m → IsLeft m l.left l.all;
 }
 
-abbrev pub decreases-loop-left : goal.decreases-loop-left
-decreases-loop-left g l = length l.left
+abbrev pub decreases-loop-store : goal.decreases-loop-store
+decreases-loop-store g l = length l.left
