@@ -15,3 +15,6 @@ mod trail;
 pub use extent::Reach;
 pub use search::reach;
 
+#[cfg(test)]
+mod tests;
+
