@@ -78,8 +78,8 @@ names_back insts t whole e q n = (
   n.0,
   n.1,
   subst (λ l. has l n.0 ≡ true)
-  (sym (ap (λ k. t.passed.items ++ back k insts t.next) (n.3).1 ∙ ap (λ u. t.passed.items ++ back (suc (n.3).0) insts u) n.2) ∙ e)
-  (has_more t.passed.items (n.0 ∷ back (n.3).0 insts (before n.0 None insts)) n.0 (has_first n.0 (back (n.3).0 insts (before n.0 None insts)))),
+      (sym (ap (λ k. t.passed.items ++ back k insts t.next) (n.3).1 ∙ ap (λ u. t.passed.items ++ back (suc (n.3).0) insts u) n.2) ∙ e)
+      (has_more t.passed.items (n.0 ∷ back (n.3).0 insts (before n.0 None insts)) n.0 (has_first n.0 (back (n.3).0 insts (before n.0 None insts)))),
 )
 
 -- ---- a whole trail

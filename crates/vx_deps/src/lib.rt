@@ -17,4 +17,3 @@ pub use search::reach;
 
 #[cfg(test)]
 mod tests;
-

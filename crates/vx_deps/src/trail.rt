@@ -94,11 +94,7 @@ fn reversed(ids: Vec<Id>) -> Ids
 }
 
 /// The ids of the at most 256 instructions of its block that end at a store, in block order; none where it is no instruction.
-pub(crate) fn looked_at<V: View>(
-    alloc: Global,
-    view: &mut V,
-    store: Id,
-) -> Result<Ids, OutOfMemory>
+pub(crate) fn looked_at<V: View>(alloc: Global, view: &mut V, store: Id) -> Result<Ids, OutOfMemory>
     requires { IsAskable (V.seen view.old) }
     ensures is { IfOk result (λ ids. (m : Module) → StandsFor (V.seen view.new) m → IsFormed m → ids ≡ looked_ids m store) }
     ensures asks { Asks (λ m. LooksAt m store) (V.seen view.old) (V.seen view.new) }
