@@ -3,3 +3,4 @@ pub mod Trailing
 pub mod Standings
 pub mod Steps
 pub mod Stores
+pub mod Nearness

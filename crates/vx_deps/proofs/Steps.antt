@@ -16,7 +16,7 @@ use Rattle.vx_view.proofs.Blocks.{found_block}
 use Rattle.vx_view.proofs.Edits.{inst_ids}
 use Rattle.vx_serial.specs.Near.{looked_at}
 use Rattle.vx_deps.specs.declared.trail.Trail.{Trail}
-use Rattle.vx_deps.specs.Reach.{IsIn, has, ids_of, LooksBack, LooksAt, looked_ids, is_there}
+use Rattle.vx_deps.specs.Reach.{IsIn, has, ids_of, LooksBack, looked_ids, is_there}
 use Rattle.vx_deps.specs.Trails.{back, rest, Passes, IsStart, IsStep, NamesBack}
 use Rattle.vx_deps.proofs.Standings.{block_once}
 use Rattle.vx_deps.proofs.Trailing.{before_in, back_is}
@@ -31,7 +31,7 @@ has_more (z ∷ xs) ys x h = by_test (same_id x z) (has_more xs ys x h)
     by_test true r = refl
     by_test false r = r
 
-has_first : (x : Id) (ys : List Id) → has (x ∷ ys) x ≡ true
+pub has_first : (x : Id) (ys : List Id) → has (x ∷ ys) x ≡ true
 has_first x ys = ap (λ b. b || has ys x) (same_itself x)
 
 has_less : (xs ys : List Id) (x : Id) → has xs x ≡ true → has (xs ++ ys) x ≡ true
@@ -42,7 +42,7 @@ has_less (z ∷ xs) ys x h = by_test (same_id x z) h (λ r. has_less xs ys x r)
     by_test true r more = refl
     by_test false r more = more r
 
-has_reversed : (xs : List Id) (x : Id) → has xs x ≡ true → has (reverse xs) x ≡ true
+pub has_reversed : (xs : List Id) (x : Id) → has xs x ≡ true → has (reverse xs) x ≡ true
 has_reversed [] x h = absurd cc
 has_reversed (z ∷ xs) x h = subst (λ l. has l x ≡ true) (sym (reverse-append (z ∷ []) xs)) (by_test (same_id x z) refl h (λ r. has_reversed xs x r))
   where
@@ -111,7 +111,7 @@ module _ (x : Id) (m : Module) (old new : Trail) (leads : Leads x m old) where
 
 -- ---- what is looked at
 
-looked_by : (m : Module) → IsFormed m → (x : Id) (s : Standing) → found m x ≡ Some s → reverse (back 256 (block_at m s.place) (Some x)) ≡ looked_ids m x
+pub looked_by : (m : Module) → IsFormed m → (x : Id) (s : Standing) → found m x ≡ Some s → reverse (back 256 (block_at m s.place) (Some x)) ≡ looked_ids m x
 looked_by m h x s e =
     let b = found_block x s m e in
     back_is (block_at m s.place) (block_once m h s.place) 256 x (s.inst, ap (find x) b.0 ∙ b.1)

@@ -1,10 +1,10 @@
 -- A trail back over a block passes what ends at where it began.
-use Rattle.std.proofs.Common.{◌≡◌, refl, sym, ap, ◌∙◌, ℕ, zero, suc, ◌+◌, ◌-◌, ◌≤◌, Bool, true, false, ◌||◌, Option, None, Some, List, [], ◌∷◌, ◌++◌, map, cond, drop, length, reverse, arith, ◌⊎◌, inl, inr, append-nil, subst}
-use Rattle.std.proofs.lemmas.List.{reverse-append, reverse-reverse, drop-append-le, drop_at, map-append}
+use Rattle.std.proofs.Common.{◌≡◌, refl, sym, ap, ◌∙◌, ℕ, zero, suc, ◌-◌, Bool, true, false, ◌||◌, Option, None, Some, List, [], ◌∷◌, ◌++◌, cond, drop, length, reverse, arith, ◌⊎◌, inl, inr, append-nil, subst}
+use Rattle.std.proofs.lemmas.List.{reverse-append, drop-append-le, drop_at, map-append}
 use Rattle.ir_types.specs.declared.id.Id.{Id}
 use Rattle.ir_types.specs.declared.inst.Inst.{Inst}
 use Rattle.ir_types.specs.Available.{same_id}
-use Rattle.ir_types.proofs.Among.{among, Once, same_is, same_itself, swapped}
+use Rattle.ir_types.proofs.Among.{among, Once, same_is, same_itself}
 use Rattle.vx_view.specs.Answers.{find, before}
 use Rattle.vx_view.proofs.Edits.{inst_ids}
 use Rattle.vx_serial.specs.Window.{up_to}

@@ -3,7 +3,6 @@
 -- The last store is the one of whose 256 instructions all stores are; where there is none, a store lies too far from the last. No
 -- store stands after the last, so no other store can have it among its own.
 use Rattle.std.specs.Prelude.{◌≡◌, refl, ◌⊎◌, Bool, true, false, ◌&&◌, ◌||◌, cond, Option, None, Some, List, [], ◌∷◌, map, ⊤}
-use Rattle.std.specs.List.{list_any}
 use Rattle.ir_types.specs.declared.id.Id.{Id}
 use Rattle.ir_types.specs.declared.inst.Inst.{Inst}
 use Rattle.ir_types.specs.declared.module.Module.{Module}
@@ -14,7 +13,7 @@ use Rattle.vx_view.specs.declared.answer.Answer.{Answer}
 use Rattle.vx_view.specs.declared.answer.Answer.TheVariants as says
 use Rattle.vx_view.specs.Answers.{find, found, Standing}
 use Rattle.vx_view.specs.Addresses.{block_of}
-use Rattle.vx_serial.specs.Near.{looked_at}
+use Rattle.vx_serial.specs.Near.{looked_at, IsNear}
 use Rattle.vx_serial.specs.Window.{id, block}
 use Rattle.vx_deps.specs.declared.extent.Reach.{Reach}
 use Rattle.vx_deps.specs.declared.extent.Reach.TheVariants.{Near, Far}
@@ -66,6 +65,14 @@ LooksAt m store q = (q ≡ ask.Inst store) ⊎ LooksBack (looked_ids m store) q
 
 abbrev pub LooksFor : Module → List Id → Question → Type 0
 LooksFor m stores q = (store : Id) × (has stores store ≡ true) × LooksAt m store q
+
+-- the stores stand in one block of a module
+abbrev pub Stand : Module → List Inst → List Id → Type 0
+Stand m insts stores = (store : Id) → has stores store ≡ true → (s : Standing) × (found m store ≡ Some s) × (s.block ≡ insts)
+
+-- a question for an instruction of the neighbourhood of the stores, or for what stands before it
+abbrev pub NamesNear : Module → List Inst → List Id → Question → Type 0
+NamesNear m insts stores q = (x : Id) × ((q ≡ ask.Inst x) ⊎ (q ≡ ask.Prev x)) × IsNear m insts stores x
 
 -- ---- answers
 

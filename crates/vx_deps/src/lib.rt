@@ -8,12 +8,11 @@
 #![tactic(auto)]
 
 mod extent;
+mod laws;
 mod lookup;
 mod search;
 mod trail;
 
 pub use extent::Reach;
+pub use laws::reads_are_near;
 pub use search::reach;
-
-#[cfg(test)]
-mod tests;

@@ -1,11 +1,8 @@
-use Rattle.std.proofs.Common.{◌∙◌, sym, subst, ap}
-use Rattle.ir_types.specs.declared.module.Module.{Module}
-use Rattle.vx_view.specs.declared.question.Question.{Question}
+use Rattle.std.proofs.Common.{subst}
 use Rattle.vx_view.specs.Blocks.{block_at}
-use Rattle.vx_view.specs.Views.{Asks}
 use Rattle.vx_view.proofs.Asking.{asks_then}
 use Rattle.vx_deps.specs.Trails.{NamesBack, IsStep}
-use Rattle.vx_deps.proofs.Steps.{Backs, Leads, asks_back, leads_on, led}
+use Rattle.vx_deps.proofs.Steps.{Backs, asks_back, leads_on, led}
 use Rattle.vx_deps.proofs.trail.back.Goals as goal
 
 pub returns-in_err-step-clause-asks : goal.returns-in_err-step-clause-asks

@@ -1,4 +1,4 @@
-use Rattle.std.proofs.Common.{◌≡◌, refl, subst, suc, ℕ, ◌<◌, arith, Some}
+use Rattle.std.proofs.Common.{◌≡◌, subst, Some}
 use Rattle.vx_view.specs.declared.question.Question.TheVariants as ask
 use Rattle.vx_view.specs.Blocks.{block_at}
 use Rattle.vx_view.proofs.Asking.{asks_more}
