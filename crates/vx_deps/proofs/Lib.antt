@@ -1,0 +1,6 @@
+-- Lemmas on reach.
+pub mod Trailing
+pub mod Standings
+pub mod Steps
+pub mod Stores
+pub mod Nearness

@@ -1,0 +1,3 @@
+-- The instructions that end at a region's stores.
+pub mod Reach
+pub mod Trails
