@@ -24,6 +24,15 @@ enum Home {
     Inst { column: usize, position: usize },
 }
 
+/// A use: walks to it end in block `end`, of which `before` instructions stand before it.
+#[derive(Clone, Copy)]
+pub(crate) struct Asked {
+    /// The value that is used.
+    pub(crate) value: Id,
+    pub(crate) before: usize,
+    pub(crate) end: usize,
+}
+
 /// Places of values, and the rows of those that instructions define.
 #[derive(Drop)]
 pub(crate) struct Known {
@@ -45,55 +54,39 @@ impl Known {
         Ok(Known { homes, bands })
     }
 
-    /// Whether the use is seen to be available: walks to it end in block `end`, of which `before` instructions stand before it.
-    pub(crate) fn clears(&self, func: &Func, value: Id, before: usize, end: usize) -> bool
+    /// Whether the use is seen to be available.
+    pub(crate) fn clears(&self, func: &Func, at: Asked) -> bool
         requires { AreBands (graph_of func.now) self.now.bands.items }
-        ensures { result ≡ true → IsAvailableAt func.now value before end }
+        ensures { result ≡ true → IsAvailableAt func.now at.value at.before at.end }
     {
-        match self.homes.get(value) {
-            Some(Home::Param(number)) => is_param_at(func, value, *number),
-            Some(Home::Inst { column, position }) => self.clears_inst(
-                func, value, before, end, *column, *position,
-            ),
+        match self.homes.get(at.value) {
+            Some(Home::Param(number)) => is_param_at(func, at.value, *number),
+            Some(Home::Inst { column, position }) => {
+                self.clears_inst(func, at, *column, *position)
+            }
             None => false,
         }
     }
 
     /// The same of a value that an instruction may define.
-    fn clears_inst(
-        &self,
-        func: &Func,
-        value: Id,
-        before: usize,
-        end: usize,
-        column: usize,
-        position: usize,
-    ) -> bool
+    fn clears_inst(&self, func: &Func, at: Asked, column: usize, position: usize) -> bool
         requires { AreBands (graph_of func.now) self.now.bands.items }
-        ensures { result ≡ true → IsAvailableAt func.now value before end }
+        ensures { result ≡ true → IsAvailableAt func.now at.value at.before at.end }
     {
         match self.bands.get(column / 64) {
-            Some(band) => clears_in(func, value, before, end, band, column % 64, position),
+            Some(band) => clears_in(func, at, band, column % 64, position),
             None => false,
         }
     }
 }
 
 /// The same of a value in a column of a band.
-fn clears_in(
-    func: &Func,
-    value: Id,
-    before: usize,
-    end: usize,
-    band: &Band,
-    column: usize,
-    position: usize,
-) -> bool
+fn clears_in(func: &Func, at: Asked, band: &Band, column: usize, position: usize) -> bool
     requires { IsBand (graph_of func.now) band.now.homes.items band.now.rows.items }
-    ensures { result ≡ true → IsAvailableAt func.now value before end }
+    ensures { result ≡ true → IsAvailableAt func.now at.value at.before at.end }
 {
     match band.homes.get(column) {
-        Some(home) => clears_at(func, value, before, end, band, column, *home, position),
+        Some(home) => clears_at(func, at, band, *home, column, position),
         None => false,
     }
 }
@@ -101,25 +94,23 @@ fn clears_in(
 /// The same of a value that may be defined at a position of its home.
 fn clears_at(
     func: &Func,
-    value: Id,
-    before: usize,
-    end: usize,
+    at: Asked,
     band: &Band,
-    column: usize,
     home: usize,
+    column: usize,
     position: usize,
 ) -> bool
     requires band { IsBand (graph_of func.now) band.now.homes.items band.now.rows.items }
     requires home { slice_index band.now.homes.items column ≡ home }
-    ensures { result ≡ true → IsAvailableAt func.now value before end }
+    ensures { result ≡ true → IsAvailableAt func.now at.value at.before at.end }
 {
-    if !stands_at(func, value, home, position) {
+    if !stands_at(func, at.value, home, position) {
         return false;
     }
-    if home == end && position < before {
+    if home == at.end && position < at.before {
         return true;
     }
-    band.is_clear(column, end)
+    band.is_clear(column, at.end)
 }
 
 /// Whether the instruction at a position of a block defines the value.

@@ -8,7 +8,7 @@ ghost use Rattle.ir_avail.specs.Verdict.{Judges};
 ghost use Rattle.ir_avail.specs.Known.{AreFacts};
 
 use crate::graph::{Graph, graph_of};
-use crate::known::Known;
+use crate::known::{Asked, Known};
 use crate::miss::{insts_at, least_miss};
 use crate::refusal::AvailRefusal;
 use ir_types::{Block, Func, Id, Inst, Numbers, Op, Opd};
@@ -73,6 +73,15 @@ struct Site {
     position: usize,
 }
 
+/// Where an operand stands.
+#[derive(Clone, Copy)]
+struct Slot {
+    /// Where its instruction does.
+    site: Site,
+    /// Counts the instruction's operands from 0.
+    slot: usize,
+}
+
 /// The same of the instruction at a site.
 fn check_inst(
     alloc: Global,
@@ -86,7 +95,8 @@ fn check_inst(
         (λ user slot walk. InstMisses user slot walk func.now site.block site.position inst.now) result }
 {
     for (slot, opd) in inst.opds.as_slice().iter().enumerate() {
-        check_opd(alloc, func, facts, site, inst, slot, opd)?;
+        let slot = Slot { site, slot };
+        check_opd(alloc, func, facts, slot, inst, opd)?;
     }
     Ok(())
 }
@@ -96,18 +106,17 @@ fn check_opd(
     alloc: Global,
     func: &Func,
     facts: &Facts,
-    site: Site,
+    at: Slot,
     inst: &Inst,
-    slot: usize,
     opd: &Opd,
 ) -> Result<(), AvailRefusal>
     requires { AreFacts func.now facts.now }
-    ensures { Judges (IsAvailableOpd func.now site.block site.position inst.now slot opd.now)
-        (λ user number walk. (inst.now.id ≡ user) × (slot ≡ number)
-        × OpdMisses walk func.now site.block site.position inst.now slot opd.now) result }
+    ensures { Judges (IsAvailableOpd func.now at.site.block at.site.position inst.now at.slot opd.now)
+        (λ user number walk. (inst.now.id ≡ user) × (at.slot ≡ number)
+        × OpdMisses walk func.now at.site.block at.site.position inst.now at.slot opd.now) result }
 {
     match opd {
-        Opd::Val(value) => check_value(alloc, func, facts, site, inst, slot, *value),
+        Opd::Val(value) => check_value(alloc, func, facts, at, inst, *value),
         _ => Ok(()),
     }
 }
@@ -117,26 +126,22 @@ fn check_value(
     alloc: Global,
     func: &Func,
     facts: &Facts,
-    site: Site,
+    at: Slot,
     inst: &Inst,
-    slot: usize,
     value: Id,
 ) -> Result<(), AvailRefusal>
     requires { AreFacts func.now facts.now }
-    ensures { Judges (IsAvailableOpd func.now site.block site.position inst.now slot (Opd.Val value))
-        (λ user number walk. (inst.now.id ≡ user) × (slot ≡ number)
-        × OpdMisses walk func.now site.block site.position inst.now slot (Opd.Val value)) result }
+    ensures { Judges (IsAvailableOpd func.now at.site.block at.site.position inst.now at.slot (Opd.Val value))
+        (λ user number walk. (inst.now.id ≡ user) × (at.slot ≡ number)
+        × OpdMisses walk func.now at.site.block at.site.position inst.now at.slot (Opd.Val value)) result }
 {
-    match walk_end(&inst.op, slot, site.block) {
+    match walk_end(&inst.op, at.slot, at.site.block) {
         None => Ok(()),
         Some(end) => {
-            let before = before_use(&inst.op, func, end, site.position);
-            judged(
-                inst.id,
-                slot,
-                missed(alloc, func, facts, value, before, end)?,
-            )
-        },
+            let before = before_use(&inst.op, func, end, at.site.position);
+            let asked = Asked { value, before, end };
+            judged(inst.id, at.slot, missed(alloc, func, facts, asked)?)
+        }
     }
 }
 
@@ -159,18 +164,23 @@ fn missed(
     alloc: Global,
     func: &Func,
     facts: &Facts,
-    value: Id,
-    before: usize,
-    end: usize,
+    asked: Asked,
 ) -> Result<Option<Numbers>, AllocError>
     requires { AreFacts func.now facts.now }
-    ensures { IfOk result (λ miss. MatchOption miss (IsAvailableAt func.now value before end)
-        (IsLeastMiss func.now value before end)) }
+    ensures { IfOk result (λ miss. MatchOption miss (IsAvailableAt func.now asked.value asked.before asked.end)
+        (IsLeastMiss func.now asked.value asked.before asked.end)) }
 {
-    if facts.known.clears(func, value, before, end) {
+    if facts.known.clears(func, asked) {
         return Ok(None);
     }
-    least_miss(alloc, func, &facts.graph, value, before, end)
+    least_miss(
+        alloc,
+        func,
+        &facts.graph,
+        asked.value,
+        asked.before,
+        asked.end,
+    )
 }
 
 /// The block in which walks to the use in a slot end, if there is one.

@@ -7,22 +7,17 @@ ghost use Rattle.ir_print.specs.Instructions as instructions;
 ghost use Rattle.ir_print.specs.Operands.{label_text};
 
 use crate::names::Names;
-use crate::scope::Scope;
 use crate::number::push_ty;
 use crate::operand::{
     push_bare_at, push_block, push_label, push_opd, push_spaced, push_typed, push_typed_at, ty_of,
 };
+use crate::scope::Scope;
 use ir_types::{Bytes, CallSite, Opd, Ty};
 use std::alloc::AllocError;
 use vx_digits::{push_decimal, push_lane};
 use vx_num::Lane;
 
-fn push_pair(
-    out: &mut Vec<u8>,
-    scope: &Scope,
-    opd: &Opd,
-    block: u32,
-) -> Result<(), AllocError>
+fn push_pair(out: &mut Vec<u8>, scope: &Scope, opd: &Opd, block: u32) -> Result<(), AllocError>
     ensures { OnOk result (out.new.items ≡ out.old.items ++ instructions.pair_text scope.now.names.now scope.now.globals.now opd.now block) }
 {
     out.extend_from_slice(b"[ ")?;
@@ -91,11 +86,7 @@ pub(crate) fn push_phi(
 }
 
 /// A `ret`.
-pub(crate) fn push_ret(
-    out: &mut Vec<u8>,
-    scope: &Scope,
-    opds: &[Opd],
-) -> Result<(), AllocError>
+pub(crate) fn push_ret(out: &mut Vec<u8>, scope: &Scope, opds: &[Opd]) -> Result<(), AllocError>
     ensures { OnOk result (out.new.items ≡ out.old.items ++ instructions.ret_text scope.now.names.now scope.now.globals.now (slice_get opds.now 0)) }
 {
     match opds.get(0) {

@@ -9,9 +9,9 @@ ghost use Rattle.ir_print.specs.Text as text;
 use crate::form::Shown;
 use crate::inst::push_insts;
 use crate::names::Names;
-use crate::scope::Scope;
 use crate::number::push_ty;
 use crate::operand::{push_local, push_spaced};
+use crate::scope::Scope;
 use ir_types::{Block, Bytes, Func, Param};
 use std::alloc::{AllocError, Global};
 
@@ -118,11 +118,7 @@ fn push_next_block(
 }
 
 /// The blocks behind the first, of which the first has this number.
-fn push_more_blocks(
-    out: &mut Vec<u8>,
-    scope: &Scope,
-    blocks: &[Block],
-) -> Result<(), AllocError>
+fn push_more_blocks(out: &mut Vec<u8>, scope: &Scope, blocks: &[Block]) -> Result<(), AllocError>
     ensures { OnOk result (out.new.items ≡ out.old.items ++ text.more_blocks scope.now.names.now scope.now.globals.now 1 blocks.now) }
 {
     let mut at = 1u32;
@@ -133,11 +129,7 @@ fn push_more_blocks(
     Ok(())
 }
 
-fn push_blocks(
-    out: &mut Vec<u8>,
-    scope: &Scope,
-    blocks: &[Block],
-) -> Result<(), AllocError>
+fn push_blocks(out: &mut Vec<u8>, scope: &Scope, blocks: &[Block]) -> Result<(), AllocError>
     ensures { OnOk result (out.new.items ≡ out.old.items ++ text.blocks_text scope.now.names.now scope.now.globals.now blocks.now) }
 {
     match blocks {
@@ -162,7 +154,10 @@ pub(crate) fn push_func<'a>(
 {
     let names = Names::of(alloc, func)?;
     push_header(out, &names, func)?;
-    let scope = Scope { names: &names, globals };
+    let scope = Scope {
+        names: &names,
+        globals,
+    };
     push_blocks(out, &scope, func.blocks.as_slice())?;
     out.extend_from_slice(b"}\n")?;
     Ok(())

@@ -9,8 +9,8 @@ ghost use Rattle.ir_print.specs.Names.{is_void, is_store};
 use crate::flow_ops::{push_br, push_call, push_cond, push_phi, push_ret, push_switch};
 use crate::memory_ops::{push_alloca, push_gep, push_load, push_store};
 use crate::names::Names;
-use crate::scope::Scope;
 use crate::operand::push_local;
+use crate::scope::Scope;
 use crate::value_ops::{
     push_bin, push_cast, push_extract, push_icmp, push_insert, push_select, push_shuffle,
 };
@@ -84,11 +84,7 @@ fn push_result(out: &mut Vec<u8>, names: &Names, inst: &Inst) -> Result<(), Allo
 }
 
 /// One instruction on its line, a `switch` on several.
-fn push_inst(
-    out: &mut Vec<u8>,
-    scope: &Scope,
-    inst: &Inst,
-) -> Result<(), AllocError>
+fn push_inst(out: &mut Vec<u8>, scope: &Scope, inst: &Inst) -> Result<(), AllocError>
     ensures { OnOk result (out.new.items ≡ out.old.items ++ instructions.inst_text scope.now.names.now scope.now.globals.now inst.now) }
 {
     out.extend_from_slice(b"  ")?;
@@ -99,11 +95,7 @@ fn push_inst(
 }
 
 /// The instructions of a block.
-pub(crate) fn push_insts(
-    out: &mut Vec<u8>,
-    scope: &Scope,
-    insts: &[Inst],
-) -> Result<(), AllocError>
+pub(crate) fn push_insts(out: &mut Vec<u8>, scope: &Scope, insts: &[Inst]) -> Result<(), AllocError>
     ensures { OnOk result (out.new.items ≡ out.old.items ++ instructions.insts_text scope.now.names.now scope.now.globals.now insts.now) }
 {
     for inst in insts {

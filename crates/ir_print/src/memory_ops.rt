@@ -5,19 +5,15 @@
 ghost use Rattle.std.specs.Prelude.{◌≡◌, ◌++◌, OnOk, codes};
 ghost use Rattle.ir_print.specs.Instructions as instructions;
 
-use crate::scope::Scope;
 use crate::number::{push_elem, push_ty};
 use crate::operand::{push_bare_at, push_typed};
+use crate::scope::Scope;
 use crate::value_ops::push_flag;
 use ir_types::{Elem, Opd, Ty};
 use std::alloc::AllocError;
 use vx_digits::push_decimal;
 
-fn push_operands(
-    out: &mut Vec<u8>,
-    scope: &Scope,
-    opds: &[Opd],
-) -> Result<(), AllocError>
+fn push_operands(out: &mut Vec<u8>, scope: &Scope, opds: &[Opd]) -> Result<(), AllocError>
     ensures { OnOk result (out.new.items ≡ out.old.items ++ instructions.indices_text scope.now.names.now scope.now.globals.now opds.now) }
 {
     for opd in opds {

@@ -9,8 +9,8 @@ ghost use Rattle.ir_print.specs.Names.{local_of};
 ghost use Rattle.ir_print.specs.Operands as operands;
 
 use crate::names::Names;
-use crate::scope::Scope;
 use crate::number::{push_literal, push_ty};
+use crate::scope::Scope;
 use ir_types::{Bytes, Id, Opd, Ty};
 use std::alloc::AllocError;
 
@@ -56,11 +56,7 @@ fn push_global(out: &mut Vec<u8>, globals: &[Bytes], global: u32) -> Result<(), 
 }
 
 /// An operand.
-pub(crate) fn push_opd(
-    out: &mut Vec<u8>,
-    scope: &Scope,
-    opd: &Opd,
-) -> Result<(), AllocError>
+pub(crate) fn push_opd(out: &mut Vec<u8>, scope: &Scope, opd: &Opd) -> Result<(), AllocError>
     ensures { OnOk result (out.new.items ≡ out.old.items ++ operands.opd_text scope.now.names.now scope.now.globals.now opd.now) }
 {
     match opd {
@@ -91,11 +87,7 @@ fn ty_of_local(names: &Names, id: Id) -> Ty
 }
 
 /// An operand behind its type.
-pub(crate) fn push_typed(
-    out: &mut Vec<u8>,
-    scope: &Scope,
-    opd: &Opd,
-) -> Result<(), AllocError>
+pub(crate) fn push_typed(out: &mut Vec<u8>, scope: &Scope, opd: &Opd) -> Result<(), AllocError>
     ensures { OnOk result (out.new.items ≡ out.old.items ++ operands.typed_text scope.now.names.now scope.now.globals.now opd.now) }
 {
     push_ty(out, ty_of(scope.names, opd))?;

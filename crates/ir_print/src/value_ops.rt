@@ -6,9 +6,9 @@ ghost use Rattle.std.specs.Prelude.{◌≡◌, ◌++◌, OnOk, codes, true};
 ghost use Rattle.vx_num.specs.Keywords as keywords;
 ghost use Rattle.ir_print.specs.Instructions as instructions;
 
-use crate::scope::Scope;
 use crate::number::{push_ty, push_vector};
 use crate::operand::{push_bare_at, push_ty_at, push_typed_at};
+use crate::scope::Scope;
 use ir_types::{Opd, Ty};
 use std::alloc::AllocError;
 use vx_digits::push_decimal;
@@ -96,11 +96,7 @@ fn push_flags(out: &mut Vec<u8>, op: BinOp, flags: Flags) -> Result<(), AllocErr
     }
 }
 
-fn push_two(
-    out: &mut Vec<u8>,
-    scope: &Scope,
-    opds: &[Opd],
-) -> Result<(), AllocError>
+fn push_two(out: &mut Vec<u8>, scope: &Scope, opds: &[Opd]) -> Result<(), AllocError>
     ensures { OnOk result (out.new.items ≡ out.old.items ++ instructions.two_text scope.now.names.now scope.now.globals.now opds.now) }
 {
     push_bare_at(out, scope, opds, 0)?;
@@ -123,11 +119,7 @@ pub(crate) fn push_two_typed(
     Ok(())
 }
 
-fn push_three_typed(
-    out: &mut Vec<u8>,
-    scope: &Scope,
-    opds: &[Opd],
-) -> Result<(), AllocError>
+fn push_three_typed(out: &mut Vec<u8>, scope: &Scope, opds: &[Opd]) -> Result<(), AllocError>
     ensures { OnOk result (out.new.items ≡ out.old.items ++ instructions.three_typed scope.now.names.now scope.now.globals.now opds.now) }
 {
     push_two_typed(out, scope, opds)?;
@@ -195,11 +187,7 @@ pub(crate) fn push_cast(
 }
 
 /// A `select`.
-pub(crate) fn push_select(
-    out: &mut Vec<u8>,
-    scope: &Scope,
-    opds: &[Opd],
-) -> Result<(), AllocError>
+pub(crate) fn push_select(out: &mut Vec<u8>, scope: &Scope, opds: &[Opd]) -> Result<(), AllocError>
     ensures { OnOk result (out.new.items ≡ out.old.items ++ (codes "select " ++ instructions.three_typed scope.now.names.now scope.now.globals.now opds.now)) }
 {
     out.extend_from_slice(b"select ")?;
@@ -208,11 +196,7 @@ pub(crate) fn push_select(
 }
 
 /// An `extractelement`.
-pub(crate) fn push_extract(
-    out: &mut Vec<u8>,
-    scope: &Scope,
-    opds: &[Opd],
-) -> Result<(), AllocError>
+pub(crate) fn push_extract(out: &mut Vec<u8>, scope: &Scope, opds: &[Opd]) -> Result<(), AllocError>
     ensures { OnOk result (out.new.items ≡ out.old.items ++ (codes "extractelement " ++ instructions.two_typed scope.now.names.now scope.now.globals.now opds.now)) }
 {
     out.extend_from_slice(b"extractelement ")?;
@@ -221,11 +205,7 @@ pub(crate) fn push_extract(
 }
 
 /// An `insertelement`.
-pub(crate) fn push_insert(
-    out: &mut Vec<u8>,
-    scope: &Scope,
-    opds: &[Opd],
-) -> Result<(), AllocError>
+pub(crate) fn push_insert(out: &mut Vec<u8>, scope: &Scope, opds: &[Opd]) -> Result<(), AllocError>
     ensures { OnOk result (out.new.items ≡ out.old.items ++ (codes "insertelement " ++ instructions.three_typed scope.now.names.now scope.now.globals.now opds.now)) }
 {
     out.extend_from_slice(b"insertelement ")?;
@@ -243,11 +223,7 @@ fn push_mask(out: &mut Vec<u8>, mask: &[Lane]) -> Result<(), AllocError>
     Ok(())
 }
 
-fn push_shuffled(
-    out: &mut Vec<u8>,
-    scope: &Scope,
-    opds: &[Opd],
-) -> Result<(), AllocError>
+fn push_shuffled(out: &mut Vec<u8>, scope: &Scope, opds: &[Opd]) -> Result<(), AllocError>
     ensures { OnOk result (out.new.items ≡ out.old.items ++ instructions.shuffled_text scope.now.names.now scope.now.globals.now opds.now) }
 {
     out.extend_from_slice(b"shufflevector ")?;
