@@ -5,3 +5,4 @@ pub mod Available
 pub mod Typed
 pub mod Formed
 pub mod Renumbered
+pub mod FormedExamples
