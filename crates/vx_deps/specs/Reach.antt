@@ -49,6 +49,14 @@ looked_ids m store = ids_of (looked_at (block_of (found m store)) store)
 abbrev pub reach : Module → List Id → Option (List Id)
 reach m stores = first_with stores (map (looked_ids m) stores)
 
+-- these are looked at for one of the stores, and all stores are among them
+abbrev pub AreNear : Module → List Id → List Id → Type 0
+AreNear m stores ids = (last : Id) × (has stores last ≡ true) × (ids ≡ looked_ids m last) × (has_all ids stores ≡ true)
+
+-- there is no store for which all stores are looked at
+abbrev pub AreFar : Module → List Id → Type 0
+AreFar m stores = (store : Id) → has stores store ≡ true → has_all (looked_ids m store) stores ≡ false
+
 abbrev pub as_reach : Reach → Option (List Id)
 as_reach (Near ids) = Some ids
 as_reach Far = None

@@ -1,16 +1,22 @@
-//! The law of what is asked for a reach.
+//! Laws of a reach and of what is asked for it.
 //!
-//! It is the contract of a function that does nothing and that no program calls; a caller that calls it has the law.
+//! Each law is the contract of a function that does nothing and that no program calls; a caller that calls it has the law.
 
 ghost use Rattle.ir_types.specs.declared.id.Id.{Id};
 ghost use Rattle.ir_types.specs.declared.inst.Inst.{Inst};
 ghost use Rattle.ir_types.specs.declared.module.Module.{Module};
 ghost use Rattle.ir_types.specs.Formed.{IsFormed};
-ghost use Rattle.std.specs.Prelude.{List};
+ghost use Rattle.std.specs.Prelude.{◌≡◌, List, None, Some};
 ghost use Rattle.vx_view.specs.declared.question.Question.{Question};
-ghost use Rattle.vx_deps.specs.Reach.{Stand, LooksFor, NamesNear};
+ghost use Rattle.vx_deps.specs.Reach.{reach, AreNear, AreFar, Stand, LooksFor, NamesNear};
 
 /// In a formed module, what is asked for the reach of stores of one block names ids of their neighbourhood alone.
 pub fn reads_are_near()
     ensures { (m : Module) → IsFormed m → (insts : List Inst) (stores : List Id) → Stand m insts stores → (q : Question) → LooksFor m stores q → NamesNear m insts stores q }
+{}
+
+/// A reach is what is looked at for one of the stores, with all stores among it; where there is none, there is no such store.
+pub fn reaches_have_the_stores()
+    ensures near { (m : Module) (stores ids : List Id) → reach m stores ≡ Some ids → AreNear m stores ids }
+    ensures far { (m : Module) (stores : List Id) → reach m stores ≡ None → AreFar m stores }
 {}

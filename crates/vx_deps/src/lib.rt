@@ -14,5 +14,5 @@ mod search;
 mod trail;
 
 pub use extent::Reach;
-pub use laws::reads_are_near;
+pub use laws::{reaches_have_the_stores, reads_are_near};
 pub use search::reach;
