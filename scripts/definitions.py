@@ -116,7 +116,7 @@ ROWS = [
     ("a text is accepted as a module", "It reads as the module and spells it, within the limits and well typed; the module is formed and its layout has the low byte first.", "vec_top/specs/Accepts.antt", "Accepts", None),
     ("the first cause against a text", "In the order of the checks.", "vec_top/specs/Accepts.antt", "IsCause", None),
     ("what a command makes of a module", "Its text, the text of what `opt` makes of it, or the outcome of a run; or the word that does not fit.", "vec_top/specs/Results.antt", "result_of", None),
-    ("what a command promises", "What `print` writes is read again; what `opt` makes refines what was read.", "vec_top/specs/Results.antt", "Promises", None),
+    ("what a command promises", "What `print` writes is read again; what `opt` writes is the text of one module, which refines what was read and is read again.", "vec_top/specs/Results.antt", "Promises", None),
     ("the replies", "What stands after each way to the end: each stream, each count, each text.", "vec_top/specs/Replies.antt", "Replies", None),
     ("Questions and changes", None, None, None, None),
     ("an answer", "What a scan of the module gives for a question.", "vx_view/specs/Answers.antt", "answer", None),
