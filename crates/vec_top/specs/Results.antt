@@ -1,5 +1,5 @@
 -- What each command makes of a module: the text to write, or the place of the first word that does not fit the module.
-use Rattle.std.specs.Prelude.{ℕ, ◌+◌, Option, None, Some, Result, Ok, Err, List, slice_get}
+use Rattle.std.specs.Prelude.{◌≡◌, ℕ, ◌+◌, Option, None, Some, Result, Ok, Err, List, slice_get}
 use Rattle.ir_types.specs.declared.ty.Ty.{Ty}
 use Rattle.ir_types.specs.declared.ty.Ty.TheVariants.{Void}
 use Rattle.ir_types.specs.declared.func.Func.{Func}
@@ -28,15 +28,30 @@ abbrev pub outcome_from : Module → ℕ → Result Start ℕ → Result (List �
 outcome_from m steps (Err place) = Err (place + 3)
 outcome_from m steps (Ok s) = Ok (text_of_outcome (run_of m s.func s.args s.memory steps) (returned_by m s.func))
 
--- `print` leaves the module, `opt` joins two neighbouring stores, `run` runs a function of it
+-- the pass of `opt`: two neighbouring stores are joined
+abbrev pub optimized : Module → Module
+optimized m = pair_of m
+
+-- `print` leaves the module, `opt` makes of it what its pass does, `run` runs a function of it
 abbrev pub result_of : Command → Module → Result (List ℕ) ℕ
 result_of Print m = Ok (text_of m)
-result_of Opt m = Ok (text_of (pair_of m))
+result_of Opt m = Ok (text_of (optimized m))
 result_of (Run steps words) m = outcome_from m steps (start_of m words)
 
--- what a command promises of what it writes: what `print` writes is read again as the module, with its ids given anew; what `opt` makes
--- of a module may stand for it, for every function, all fitting arguments and memories and every bound
+-- a module that `opt` makes of another
+pub record IsOptimized (m n : Module) : Type 0 where
+  -- what is written is its text
+  pub written : result_of Opt m ≡ Ok (text_of n)
+  -- it is what the pass makes of the other
+  pub made : n ≡ optimized m
+  -- it may stand for the other, for every function, all fitting arguments and memories and every bound
+  pub refines : ModuleRefines n m
+  -- its text is read again as it, with its ids given anew, and spells that
+  pub again : IsReadAgain n
+
+-- what a command promises of what it writes: what `print` writes is read again as the module, with its ids given anew; what `opt`
+-- writes is the text of one module that may stand for what was read, and is read again too
 abbrev pub Promises : Command → Module → Type 0
 Promises Print m = IsReadAgain m
-Promises Opt m = ModuleRefines (pair_of m) m
+Promises Opt m = (n : Module) × IsOptimized m n
 Promises (Run steps words) m = Unit {0}

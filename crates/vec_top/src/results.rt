@@ -12,7 +12,6 @@ use crate::fault::Fault;
 use ir_interp::run;
 use ir_print::print;
 use ir_types::{Item, Module, Names, Ty};
-use rf_pack::pair_refines;
 use std::alloc::Global;
 use vec_words::{Command, Start, WordsRefusal, outcome_text, start};
 use vx_serial::pair;
@@ -34,11 +33,14 @@ fn printed(alloc: Global, m: &Module) -> Result<Vec<u8>, Fault>
     }
 }
 
-/// The text of the module in which two neighbouring stores became one.
+/// The text of what the pass makes of the module, which is read again as that.
 fn optimized(alloc: Global, m: Module) -> Result<Vec<u8>, Fault>
+    requires { making.IsReady m }
     ensures { making.ResultFor Opt m result }
 {
-    pair_refines();
+    if !are_counted(&m) {
+        return Err(Fault::NoMemory);
+    }
     match pair(alloc, m) {
         Ok(new) => match print(alloc, &new) {
             Ok(text) => Ok(text),
