@@ -102,9 +102,20 @@ opcodes =
 unfoldable pub opcode_of : List ℕ → Option Opcode
 opcode_of t = by_word opcode_word opcodes t
 
--- the same of those that are not binary
-abbrev pub unlike_of : List ℕ → Option Opcode
-unlike_of t = by_word opcode_word (Cast Zext ∷ Cast Sext ∷ Cast Trunc ∷ Icmp ∷ Select ∷ Extract ∷ Insert ∷ Shuffle ∷ Gep ∷ Load ∷ Alloca ∷ Phi ∷ []) t
+-- the same of those whose words have not three bytes
+abbrev pub longer_opcode_of : List ℕ → Option Opcode
+longer_opcode_of t =
+    by_word opcode_word
+    (Bin Udiv ∷ Bin Sdiv ∷ Bin Urem ∷ Bin Srem ∷ Bin Lshr ∷ Bin Ashr ∷ Bin Or ∷ Cast Zext ∷ Cast Sext ∷ Cast Trunc ∷ Icmp ∷ Select ∷ Extract ∷ Insert ∷ Shuffle
+    ∷ Gep ∷ Load ∷ Alloca ∷ []) t
+
+-- nor four
+abbrev pub last_opcode_of : List ℕ → Option Opcode
+last_opcode_of t = by_word opcode_word (Bin Or ∷ Cast Trunc ∷ Select ∷ Extract ∷ Insert ∷ Shuffle ∷ Gep ∷ Alloca ∷ []) t
+
+-- but more than five
+abbrev pub long_opcode_of : List ℕ → Option Opcode
+long_opcode_of t = by_word opcode_word (Select ∷ Extract ∷ Insert ∷ Shuffle ∷ Gep ∷ Alloca ∷ []) t
 
 -- the words of operations that have none
 abbrev pub act_word : Act → List ℕ
@@ -119,6 +130,10 @@ acts = Store ∷ Ret ∷ Br ∷ Switch ∷ Unreachable ∷ []
 
 unfoldable pub act_of : List ℕ → Option Act
 act_of t = by_word act_word acts t
+
+-- the same of those whose words have more than five bytes
+abbrev pub long_act_of : List ℕ → Option Act
+long_act_of t = by_word act_word (Switch ∷ Unreachable ∷ []) t
 
 -- the comparisons
 abbrev pub preds : List Pred

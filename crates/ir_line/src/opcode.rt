@@ -36,71 +36,65 @@ pub(crate) enum Act {
     Unreachable,
 }
 
-/// The operation with a result that a word names.
+/// The operation with a result that a word names: first the words of three bytes.
 #[tactic(auto, unfolding(crate::specs::Values::opcode_of))]
 pub(crate) fn opcode_of(word: &[u8]) -> Result<Opcode, Stop>
     ensures { Gives (λ x. x) result (values.opcode_of word.now) }
 {
-    if is(word, b"add") {
-        return Ok(Opcode::Bin(BinOp::Add));
+    match word {
+        b"add" => Ok(Opcode::Bin(BinOp::Add)),
+        b"sub" => Ok(Opcode::Bin(BinOp::Sub)),
+        b"mul" => Ok(Opcode::Bin(BinOp::Mul)),
+        b"shl" => Ok(Opcode::Bin(BinOp::Shl)),
+        b"and" => Ok(Opcode::Bin(BinOp::And)),
+        b"xor" => Ok(Opcode::Bin(BinOp::Xor)),
+        b"phi" => Ok(Opcode::Phi),
+        _ => longer_opcode_of(word),
     }
-    if is(word, b"sub") {
-        return Ok(Opcode::Bin(BinOp::Sub));
-    }
-    if is(word, b"mul") {
-        return Ok(Opcode::Bin(BinOp::Mul));
-    }
-    if is(word, b"shl") {
-        return Ok(Opcode::Bin(BinOp::Shl));
-    }
-    if is(word, b"udiv") {
-        return Ok(Opcode::Bin(BinOp::Udiv));
-    }
-    if is(word, b"sdiv") {
-        return Ok(Opcode::Bin(BinOp::Sdiv));
-    }
-    if is(word, b"urem") {
-        return Ok(Opcode::Bin(BinOp::Urem));
-    }
-    if is(word, b"srem") {
-        return Ok(Opcode::Bin(BinOp::Srem));
-    }
-    if is(word, b"lshr") {
-        return Ok(Opcode::Bin(BinOp::Lshr));
-    }
-    if is(word, b"ashr") {
-        return Ok(Opcode::Bin(BinOp::Ashr));
-    }
-    if is(word, b"and") {
-        return Ok(Opcode::Bin(BinOp::And));
-    }
-    if is(word, b"or") {
-        return Ok(Opcode::Bin(BinOp::Or));
-    }
-    if is(word, b"xor") {
-        return Ok(Opcode::Bin(BinOp::Xor));
-    }
-    unlike_opcode_of(word)
 }
 
-/// The same behind the binary operations.
-fn unlike_opcode_of(word: &[u8]) -> Result<Opcode, Stop>
-    ensures { Gives (λ x. x) result (values.unlike_of word.now) }
+/// The same of the words of any other length: first those of four bytes.
+fn longer_opcode_of(word: &[u8]) -> Result<Opcode, Stop>
+    ensures { Gives (λ x. x) result (values.longer_opcode_of word.now) }
 {
-    if is(word, b"zext") {
-        return Ok(Opcode::Cast(CastOp::Zext));
+    match word {
+        b"udiv" => Ok(Opcode::Bin(BinOp::Udiv)),
+        b"sdiv" => Ok(Opcode::Bin(BinOp::Sdiv)),
+        b"urem" => Ok(Opcode::Bin(BinOp::Urem)),
+        b"srem" => Ok(Opcode::Bin(BinOp::Srem)),
+        b"lshr" => Ok(Opcode::Bin(BinOp::Lshr)),
+        b"ashr" => Ok(Opcode::Bin(BinOp::Ashr)),
+        b"zext" => Ok(Opcode::Cast(CastOp::Zext)),
+        b"sext" => Ok(Opcode::Cast(CastOp::Sext)),
+        b"icmp" => Ok(Opcode::Icmp),
+        b"load" => Ok(Opcode::Load),
+        _ => last_opcode_of(word),
     }
-    if is(word, b"sext") {
-        return Ok(Opcode::Cast(CastOp::Sext));
+}
+
+/// The same of the words of neither length.
+fn last_opcode_of(word: &[u8]) -> Result<Opcode, Stop>
+    ensures { Gives (λ x. x) result (values.last_opcode_of word.now) }
+{
+    match word {
+        b"or" => Ok(Opcode::Bin(BinOp::Or)),
+        b"trunc" => Ok(Opcode::Cast(CastOp::Trunc)),
+        _ => long_opcode_of(word),
     }
-    if is(word, b"trunc") {
-        return Ok(Opcode::Cast(CastOp::Trunc));
-    }
-    if is(word, b"icmp") {
-        return Ok(Opcode::Icmp);
+}
+
+/// The same of the words of more than five bytes.
+fn long_opcode_of(word: &[u8]) -> Result<Opcode, Stop>
+    ensures { Gives (λ x. x) result (values.long_opcode_of word.now) }
+{
+    if is(word, b"getelementptr") {
+        return Ok(Opcode::Gep);
     }
     if is(word, b"select") {
         return Ok(Opcode::Select);
+    }
+    if is(word, b"alloca") {
+        return Ok(Opcode::Alloca);
     }
     if is(word, b"extractelement") {
         return Ok(Opcode::Extract);
@@ -111,18 +105,6 @@ fn unlike_opcode_of(word: &[u8]) -> Result<Opcode, Stop>
     if is(word, b"shufflevector") {
         return Ok(Opcode::Shuffle);
     }
-    if is(word, b"getelementptr") {
-        return Ok(Opcode::Gep);
-    }
-    if is(word, b"load") {
-        return Ok(Opcode::Load);
-    }
-    if is(word, b"alloca") {
-        return Ok(Opcode::Alloca);
-    }
-    if is(word, b"phi") {
-        return Ok(Opcode::Phi);
-    }
     Err(Stop::NotALine)
 }
 
@@ -131,15 +113,18 @@ fn unlike_opcode_of(word: &[u8]) -> Result<Opcode, Stop>
 pub(crate) fn act_of(word: &[u8]) -> Result<Act, Stop>
     ensures { Gives (λ x. x) result (values.act_of word.now) }
 {
-    if is(word, b"store") {
-        return Ok(Act::Store);
+    match word {
+        b"store" => Ok(Act::Store),
+        b"ret" => Ok(Act::Ret),
+        b"br" => Ok(Act::Br),
+        _ => long_act_of(word),
     }
-    if is(word, b"ret") {
-        return Ok(Act::Ret);
-    }
-    if is(word, b"br") {
-        return Ok(Act::Br);
-    }
+}
+
+/// The same of the words of more than five bytes.
+fn long_act_of(word: &[u8]) -> Result<Act, Stop>
+    ensures { Gives (λ x. x) result (values.long_act_of word.now) }
+{
     if is(word, b"switch") {
         return Ok(Act::Switch);
     }
@@ -154,35 +139,17 @@ pub(crate) fn act_of(word: &[u8]) -> Result<Act, Stop>
 pub(crate) fn pred_of(word: &[u8]) -> Result<Pred, Stop>
     ensures { Gives (λ x. x) result (values.pred_of word.now) }
 {
-    if is(word, b"eq") {
-        return Ok(Pred::Eq);
+    match word {
+        b"eq" => Ok(Pred::Eq),
+        b"ne" => Ok(Pred::Ne),
+        b"ugt" => Ok(Pred::Ugt),
+        b"uge" => Ok(Pred::Uge),
+        b"ult" => Ok(Pred::Ult),
+        b"ule" => Ok(Pred::Ule),
+        b"sgt" => Ok(Pred::Sgt),
+        b"sge" => Ok(Pred::Sge),
+        b"slt" => Ok(Pred::Slt),
+        b"sle" => Ok(Pred::Sle),
+        _ => Err(Stop::NotALine),
     }
-    if is(word, b"ne") {
-        return Ok(Pred::Ne);
-    }
-    if is(word, b"ugt") {
-        return Ok(Pred::Ugt);
-    }
-    if is(word, b"uge") {
-        return Ok(Pred::Uge);
-    }
-    if is(word, b"ult") {
-        return Ok(Pred::Ult);
-    }
-    if is(word, b"ule") {
-        return Ok(Pred::Ule);
-    }
-    if is(word, b"sgt") {
-        return Ok(Pred::Sgt);
-    }
-    if is(word, b"sge") {
-        return Ok(Pred::Sge);
-    }
-    if is(word, b"slt") {
-        return Ok(Pred::Slt);
-    }
-    if is(word, b"sle") {
-        return Ok(Pred::Sle);
-    }
-    Err(Stop::NotALine)
 }
