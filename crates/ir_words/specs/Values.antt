@@ -1,5 +1,5 @@
 -- What one word says by itself: a width, a number, a lane, a name, a keyword.
-use Rattle.std.specs.Prelude.{◌≡◌, refl, ℕ, ◌+◌, ◌-◌, ◌*◌, ◌^◌, Bool, true, false, ◌&&◌, cond, Option, Some, None, List, [], ◌∷◌, bytes_eq, nat_eq, nat_lt, nat_le, codes}
+use Rattle.std.specs.Prelude.{◌≡◌, refl, ℕ, ◌+◌, ◌-◌, ◌*◌, ◌^◌, Bool, true, false, ◌&&◌, cond, Option, Some, None, List, [], ◌∷◌, ◌++◌, bytes_eq, nat_eq, nat_lt, nat_le, codes}
 use Rattle.std.specs.Char.{is_ascii_digit}
 use Rattle.std.specs.Int.{is_power_of_two}
 use Rattle.std.specs.List.{list_all}
@@ -99,28 +99,34 @@ opcode_word Load = codes "load"
 opcode_word Alloca = codes "alloca"
 opcode_word Phi = codes "phi"
 
+-- those with words of two or three bytes, of four, and of more
+abbrev pub short_opcodes : List Opcode
+short_opcodes = Bin Add ∷ Bin Sub ∷ Bin Mul ∷ Bin Shl ∷ Bin And ∷ Bin Or ∷ Bin Xor ∷ Phi ∷ []
+
+abbrev pub four_opcodes : List Opcode
+four_opcodes = Bin Udiv ∷ Bin Sdiv ∷ Bin Urem ∷ Bin Srem ∷ Bin Lshr ∷ Bin Ashr ∷ Cast Zext ∷ Cast Sext ∷ Icmp ∷ Load ∷ []
+
+abbrev pub long_opcodes : List Opcode
+long_opcodes = Gep ∷ Cast Trunc ∷ Select ∷ Alloca ∷ Extract ∷ Insert ∷ Shuffle ∷ []
+
 abbrev pub opcodes : List Opcode
-opcodes =
-    Bin Add ∷ Bin Sub ∷ Bin Mul ∷ Bin Shl ∷ Bin Udiv ∷ Bin Sdiv ∷ Bin Urem ∷ Bin Srem ∷ Bin Lshr ∷ Bin Ashr ∷ Bin And ∷ Bin Or ∷ Bin Xor
-    ∷ Cast Zext ∷ Cast Sext ∷ Cast Trunc ∷ Icmp ∷ Select ∷ Extract ∷ Insert ∷ Shuffle ∷ Gep ∷ Load ∷ Alloca ∷ Phi ∷ []
+opcodes = short_opcodes ++ (four_opcodes ++ long_opcodes)
 
 unfoldable pub opcode_of : List ℕ → Option Opcode
 opcode_of t = by_word opcode_word opcodes t
 
--- the same of those whose words have not three bytes
-abbrev pub longer_opcode_of : List ℕ → Option Opcode
-longer_opcode_of t =
-    by_word opcode_word
-    (Bin Udiv ∷ Bin Sdiv ∷ Bin Urem ∷ Bin Srem ∷ Bin Lshr ∷ Bin Ashr ∷ Bin Or ∷ Cast Zext ∷ Cast Sext ∷ Cast Trunc ∷ Icmp ∷ Select ∷ Extract ∷ Insert ∷ Shuffle
-    ∷ Gep ∷ Load ∷ Alloca ∷ []) t
+-- the same among the words of these lengths alone
+abbrev pub short_opcode_of : List ℕ → Option Opcode
+short_opcode_of t = by_word opcode_word short_opcodes t
 
--- nor four
-abbrev pub last_opcode_of : List ℕ → Option Opcode
-last_opcode_of t = by_word opcode_word (Bin Or ∷ Cast Trunc ∷ Select ∷ Extract ∷ Insert ∷ Shuffle ∷ Gep ∷ Alloca ∷ []) t
+abbrev pub four_opcode_of : List ℕ → Option Opcode
+four_opcode_of t = by_word opcode_word four_opcodes t
 
--- but more than five
 abbrev pub long_opcode_of : List ℕ → Option Opcode
-long_opcode_of t = by_word opcode_word (Select ∷ Extract ∷ Insert ∷ Shuffle ∷ Gep ∷ Alloca ∷ []) t
+long_opcode_of t = by_word opcode_word long_opcodes t
+
+abbrev pub longer_opcode_of : List ℕ → Option Opcode
+longer_opcode_of t = by_word opcode_word (four_opcodes ++ long_opcodes) t
 
 -- the words of operations that have none
 abbrev pub act_word : Act → List ℕ

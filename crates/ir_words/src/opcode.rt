@@ -36,76 +36,97 @@ pub enum Act {
     Unreachable,
 }
 
-/// The operation with a result that a word names: first the words of three bytes.
-#[tactic(auto, unfolding(crate::specs::Values::opcode_of))]
+/// The operation with a result that a word names.
 pub fn opcode_of(word: &[u8]) -> Result<Opcode, Stop>
     ensures { Gives (λ x. x) result (values.opcode_of word.now) }
 {
-    match word {
-        b"add" => Ok(Opcode::Bin(BinOp::Add)),
-        b"sub" => Ok(Opcode::Bin(BinOp::Sub)),
-        b"mul" => Ok(Opcode::Bin(BinOp::Mul)),
-        b"shl" => Ok(Opcode::Bin(BinOp::Shl)),
-        b"and" => Ok(Opcode::Bin(BinOp::And)),
-        b"xor" => Ok(Opcode::Bin(BinOp::Xor)),
-        b"phi" => Ok(Opcode::Phi),
-        _ => longer_opcode_of(word),
+    found(word).ok_or(Stop::NotALine)
+}
+
+/// The same, as a word that may name none.
+#[tactic(auto, using(crate::proofs::Tables::none_short))]
+fn found(word: &[u8]) -> Option<Opcode>
+    ensures { result ≡ values.opcode_of word.now }
+{
+    match short_opcode(word) {
+        Some(code) => Some(code),
+        None => longer_opcode(word),
     }
 }
 
-/// The same of the words of any other length: first those of four bytes.
-fn longer_opcode_of(word: &[u8]) -> Result<Opcode, Stop>
-    ensures { Gives (λ x. x) result (values.longer_opcode_of word.now) }
+/// The operation of a word of two or three bytes.
+fn short_opcode(word: &[u8]) -> Option<Opcode>
+    ensures { result ≡ values.short_opcode_of word.now }
 {
     match word {
-        b"udiv" => Ok(Opcode::Bin(BinOp::Udiv)),
-        b"sdiv" => Ok(Opcode::Bin(BinOp::Sdiv)),
-        b"urem" => Ok(Opcode::Bin(BinOp::Urem)),
-        b"srem" => Ok(Opcode::Bin(BinOp::Srem)),
-        b"lshr" => Ok(Opcode::Bin(BinOp::Lshr)),
-        b"ashr" => Ok(Opcode::Bin(BinOp::Ashr)),
-        b"zext" => Ok(Opcode::Cast(CastOp::Zext)),
-        b"sext" => Ok(Opcode::Cast(CastOp::Sext)),
-        b"icmp" => Ok(Opcode::Icmp),
-        b"load" => Ok(Opcode::Load),
-        _ => last_opcode_of(word),
+        b"add" => Some(Opcode::Bin(BinOp::Add)),
+        b"sub" => Some(Opcode::Bin(BinOp::Sub)),
+        b"mul" => Some(Opcode::Bin(BinOp::Mul)),
+        b"shl" => Some(Opcode::Bin(BinOp::Shl)),
+        b"and" => Some(Opcode::Bin(BinOp::And)),
+        b"or" => Some(Opcode::Bin(BinOp::Or)),
+        b"xor" => Some(Opcode::Bin(BinOp::Xor)),
+        b"phi" => Some(Opcode::Phi),
+        _ => None,
     }
 }
 
-/// The same of the words of neither length.
-fn last_opcode_of(word: &[u8]) -> Result<Opcode, Stop>
-    ensures { Gives (λ x. x) result (values.last_opcode_of word.now) }
+/// The operation of a word of more.
+#[tactic(auto, using(crate::proofs::Tables::found_four, crate::proofs::Tables::none_four))]
+fn longer_opcode(word: &[u8]) -> Option<Opcode>
+    ensures { result ≡ values.longer_opcode_of word.now }
+{
+    match four_opcode(word) {
+        Some(code) => Some(code),
+        None => long_opcode(word),
+    }
+}
+
+/// The operation of a word of four bytes.
+fn four_opcode(word: &[u8]) -> Option<Opcode>
+    ensures { result ≡ values.four_opcode_of word.now }
 {
     match word {
-        b"or" => Ok(Opcode::Bin(BinOp::Or)),
-        b"trunc" => Ok(Opcode::Cast(CastOp::Trunc)),
-        _ => long_opcode_of(word),
+        b"udiv" => Some(Opcode::Bin(BinOp::Udiv)),
+        b"sdiv" => Some(Opcode::Bin(BinOp::Sdiv)),
+        b"urem" => Some(Opcode::Bin(BinOp::Urem)),
+        b"srem" => Some(Opcode::Bin(BinOp::Srem)),
+        b"lshr" => Some(Opcode::Bin(BinOp::Lshr)),
+        b"ashr" => Some(Opcode::Bin(BinOp::Ashr)),
+        b"zext" => Some(Opcode::Cast(CastOp::Zext)),
+        b"sext" => Some(Opcode::Cast(CastOp::Sext)),
+        b"icmp" => Some(Opcode::Icmp),
+        b"load" => Some(Opcode::Load),
+        _ => None,
     }
 }
 
-/// The same of the words of more than five bytes.
-fn long_opcode_of(word: &[u8]) -> Result<Opcode, Stop>
-    ensures { Gives (λ x. x) result (values.long_opcode_of word.now) }
+/// The operation of a word of five bytes or more.
+fn long_opcode(word: &[u8]) -> Option<Opcode>
+    ensures { result ≡ values.long_opcode_of word.now }
 {
     if is(word, b"getelementptr") {
-        return Ok(Opcode::Gep);
+        return Some(Opcode::Gep);
+    }
+    if is(word, b"trunc") {
+        return Some(Opcode::Cast(CastOp::Trunc));
     }
     if is(word, b"select") {
-        return Ok(Opcode::Select);
+        return Some(Opcode::Select);
     }
     if is(word, b"alloca") {
-        return Ok(Opcode::Alloca);
+        return Some(Opcode::Alloca);
     }
     if is(word, b"extractelement") {
-        return Ok(Opcode::Extract);
+        return Some(Opcode::Extract);
     }
     if is(word, b"insertelement") {
-        return Ok(Opcode::Insert);
+        return Some(Opcode::Insert);
     }
     if is(word, b"shufflevector") {
-        return Ok(Opcode::Shuffle);
+        return Some(Opcode::Shuffle);
     }
-    Err(Stop::NotALine)
+    None
 }
 
 /// The operation without a result that a word names.
