@@ -1,5 +1,5 @@
-pub mod Arguments
 pub mod Answering
+pub mod Arguments
 pub mod Bodies
 pub mod BodyLines
 pub mod CallLines
@@ -16,6 +16,7 @@ pub mod PowerAligns
 pub mod SoundForms
 pub mod SoundLines
 pub mod Steps
+pub mod Tables
 pub mod Trees
 pub mod TypesOfKinds
 pub mod WholeLines

@@ -1,5 +1,5 @@
 -- What one word says by itself: a width, a number, a lane, a name, a keyword.
-use Rattle.std.specs.Prelude.{◌≡◌, refl, ℕ, ◌+◌, ◌-◌, ◌*◌, ◌^◌, Bool, ◌&&◌, cond, Option, Some, None, List, [], ◌∷◌, bytes_eq, nat_eq, nat_lt, nat_le, codes}
+use Rattle.std.specs.Prelude.{◌≡◌, refl, ℕ, ◌+◌, ◌-◌, ◌*◌, ◌^◌, Bool, ◌&&◌, cond, Option, Some, None, List, [], ◌∷◌, ◌++◌, bytes_eq, nat_eq, nat_lt, nat_le, codes}
 use Rattle.std.specs.Char.{is_ascii_digit}
 use Rattle.std.specs.Int.{is_power_of_two}
 use Rattle.std.specs.List.{list_all}
@@ -94,17 +94,34 @@ opcode_word Load = codes "load"
 opcode_word Alloca = codes "alloca"
 opcode_word Phi = codes "phi"
 
+-- those with words of two or three bytes, of four, and of more
+abbrev pub short_opcodes : List Opcode
+short_opcodes = Bin Add ∷ Bin Sub ∷ Bin Mul ∷ Bin Shl ∷ Bin And ∷ Bin Or ∷ Bin Xor ∷ Phi ∷ []
+
+abbrev pub four_opcodes : List Opcode
+four_opcodes = Bin Udiv ∷ Bin Sdiv ∷ Bin Urem ∷ Bin Srem ∷ Bin Lshr ∷ Bin Ashr ∷ Cast Zext ∷ Cast Sext ∷ Icmp ∷ Load ∷ []
+
+abbrev pub long_opcodes : List Opcode
+long_opcodes = Gep ∷ Cast Trunc ∷ Select ∷ Alloca ∷ Extract ∷ Insert ∷ Shuffle ∷ []
+
 abbrev pub opcodes : List Opcode
-opcodes =
-    Bin Add ∷ Bin Sub ∷ Bin Mul ∷ Bin Shl ∷ Bin Udiv ∷ Bin Sdiv ∷ Bin Urem ∷ Bin Srem ∷ Bin Lshr ∷ Bin Ashr ∷ Bin And ∷ Bin Or ∷ Bin Xor
-    ∷ Cast Zext ∷ Cast Sext ∷ Cast Trunc ∷ Icmp ∷ Select ∷ Extract ∷ Insert ∷ Shuffle ∷ Gep ∷ Load ∷ Alloca ∷ Phi ∷ []
+opcodes = short_opcodes ++ (four_opcodes ++ long_opcodes)
 
 unfoldable pub opcode_of : List ℕ → Option Opcode
 opcode_of t = by_word opcode_word opcodes t
 
--- the same of those that are not binary
-abbrev pub unlike_of : List ℕ → Option Opcode
-unlike_of t = by_word opcode_word (Cast Zext ∷ Cast Sext ∷ Cast Trunc ∷ Icmp ∷ Select ∷ Extract ∷ Insert ∷ Shuffle ∷ Gep ∷ Load ∷ Alloca ∷ Phi ∷ []) t
+-- the same among the words of these lengths alone
+abbrev pub short_opcode_of : List ℕ → Option Opcode
+short_opcode_of t = by_word opcode_word short_opcodes t
+
+abbrev pub four_opcode_of : List ℕ → Option Opcode
+four_opcode_of t = by_word opcode_word four_opcodes t
+
+abbrev pub long_opcode_of : List ℕ → Option Opcode
+long_opcode_of t = by_word opcode_word long_opcodes t
+
+abbrev pub longer_opcode_of : List ℕ → Option Opcode
+longer_opcode_of t = by_word opcode_word (four_opcodes ++ long_opcodes) t
 
 -- the words of operations that have none
 abbrev pub act_word : Act → List ℕ
@@ -119,6 +136,10 @@ acts = Store ∷ Ret ∷ Br ∷ Switch ∷ Unreachable ∷ []
 
 unfoldable pub act_of : List ℕ → Option Act
 act_of t = by_word act_word acts t
+
+-- the same of those whose words have more than five bytes
+abbrev pub long_act_of : List ℕ → Option Act
+long_act_of t = by_word act_word (Switch ∷ Unreachable ∷ []) t
 
 -- the comparisons
 abbrev pub preds : List Pred

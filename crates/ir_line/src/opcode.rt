@@ -37,93 +37,96 @@ pub(crate) enum Act {
 }
 
 /// The operation with a result that a word names.
-#[tactic(auto, unfolding(crate::specs::Values::opcode_of))]
 pub(crate) fn opcode_of(word: &[u8]) -> Result<Opcode, Stop>
     ensures { Gives (λ x. x) result (values.opcode_of word.now) }
 {
-    if is(word, b"add") {
-        return Ok(Opcode::Bin(BinOp::Add));
-    }
-    if is(word, b"sub") {
-        return Ok(Opcode::Bin(BinOp::Sub));
-    }
-    if is(word, b"mul") {
-        return Ok(Opcode::Bin(BinOp::Mul));
-    }
-    if is(word, b"shl") {
-        return Ok(Opcode::Bin(BinOp::Shl));
-    }
-    if is(word, b"udiv") {
-        return Ok(Opcode::Bin(BinOp::Udiv));
-    }
-    if is(word, b"sdiv") {
-        return Ok(Opcode::Bin(BinOp::Sdiv));
-    }
-    if is(word, b"urem") {
-        return Ok(Opcode::Bin(BinOp::Urem));
-    }
-    if is(word, b"srem") {
-        return Ok(Opcode::Bin(BinOp::Srem));
-    }
-    if is(word, b"lshr") {
-        return Ok(Opcode::Bin(BinOp::Lshr));
-    }
-    if is(word, b"ashr") {
-        return Ok(Opcode::Bin(BinOp::Ashr));
-    }
-    if is(word, b"and") {
-        return Ok(Opcode::Bin(BinOp::And));
-    }
-    if is(word, b"or") {
-        return Ok(Opcode::Bin(BinOp::Or));
-    }
-    if is(word, b"xor") {
-        return Ok(Opcode::Bin(BinOp::Xor));
-    }
-    unlike_opcode_of(word)
+    found(word).ok_or(Stop::NotALine)
 }
 
-/// The same behind the binary operations.
-fn unlike_opcode_of(word: &[u8]) -> Result<Opcode, Stop>
-    ensures { Gives (λ x. x) result (values.unlike_of word.now) }
+/// The same, as a word that may name none.
+#[tactic(auto, using(crate::proofs::Tables::none_short))]
+fn found(word: &[u8]) -> Option<Opcode>
+    ensures { result ≡ values.opcode_of word.now }
 {
-    if is(word, b"zext") {
-        return Ok(Opcode::Cast(CastOp::Zext));
+    match short_opcode(word) {
+        Some(code) => Some(code),
+        None => longer_opcode(word),
     }
-    if is(word, b"sext") {
-        return Ok(Opcode::Cast(CastOp::Sext));
+}
+
+/// The operation of a word of two or three bytes.
+fn short_opcode(word: &[u8]) -> Option<Opcode>
+    ensures { result ≡ values.short_opcode_of word.now }
+{
+    match word {
+        b"add" => Some(Opcode::Bin(BinOp::Add)),
+        b"sub" => Some(Opcode::Bin(BinOp::Sub)),
+        b"mul" => Some(Opcode::Bin(BinOp::Mul)),
+        b"shl" => Some(Opcode::Bin(BinOp::Shl)),
+        b"and" => Some(Opcode::Bin(BinOp::And)),
+        b"or" => Some(Opcode::Bin(BinOp::Or)),
+        b"xor" => Some(Opcode::Bin(BinOp::Xor)),
+        b"phi" => Some(Opcode::Phi),
+        _ => None,
+    }
+}
+
+/// The operation of a word of more.
+#[tactic(auto, using(crate::proofs::Tables::found_four, crate::proofs::Tables::none_four))]
+fn longer_opcode(word: &[u8]) -> Option<Opcode>
+    ensures { result ≡ values.longer_opcode_of word.now }
+{
+    match four_opcode(word) {
+        Some(code) => Some(code),
+        None => long_opcode(word),
+    }
+}
+
+/// The operation of a word of four bytes.
+fn four_opcode(word: &[u8]) -> Option<Opcode>
+    ensures { result ≡ values.four_opcode_of word.now }
+{
+    match word {
+        b"udiv" => Some(Opcode::Bin(BinOp::Udiv)),
+        b"sdiv" => Some(Opcode::Bin(BinOp::Sdiv)),
+        b"urem" => Some(Opcode::Bin(BinOp::Urem)),
+        b"srem" => Some(Opcode::Bin(BinOp::Srem)),
+        b"lshr" => Some(Opcode::Bin(BinOp::Lshr)),
+        b"ashr" => Some(Opcode::Bin(BinOp::Ashr)),
+        b"zext" => Some(Opcode::Cast(CastOp::Zext)),
+        b"sext" => Some(Opcode::Cast(CastOp::Sext)),
+        b"icmp" => Some(Opcode::Icmp),
+        b"load" => Some(Opcode::Load),
+        _ => None,
+    }
+}
+
+/// The operation of a word of five bytes or more.
+fn long_opcode(word: &[u8]) -> Option<Opcode>
+    ensures { result ≡ values.long_opcode_of word.now }
+{
+    if is(word, b"getelementptr") {
+        return Some(Opcode::Gep);
     }
     if is(word, b"trunc") {
-        return Ok(Opcode::Cast(CastOp::Trunc));
-    }
-    if is(word, b"icmp") {
-        return Ok(Opcode::Icmp);
+        return Some(Opcode::Cast(CastOp::Trunc));
     }
     if is(word, b"select") {
-        return Ok(Opcode::Select);
-    }
-    if is(word, b"extractelement") {
-        return Ok(Opcode::Extract);
-    }
-    if is(word, b"insertelement") {
-        return Ok(Opcode::Insert);
-    }
-    if is(word, b"shufflevector") {
-        return Ok(Opcode::Shuffle);
-    }
-    if is(word, b"getelementptr") {
-        return Ok(Opcode::Gep);
-    }
-    if is(word, b"load") {
-        return Ok(Opcode::Load);
+        return Some(Opcode::Select);
     }
     if is(word, b"alloca") {
-        return Ok(Opcode::Alloca);
+        return Some(Opcode::Alloca);
     }
-    if is(word, b"phi") {
-        return Ok(Opcode::Phi);
+    if is(word, b"extractelement") {
+        return Some(Opcode::Extract);
     }
-    Err(Stop::NotALine)
+    if is(word, b"insertelement") {
+        return Some(Opcode::Insert);
+    }
+    if is(word, b"shufflevector") {
+        return Some(Opcode::Shuffle);
+    }
+    None
 }
 
 /// The operation without a result that a word names.
@@ -131,15 +134,18 @@ fn unlike_opcode_of(word: &[u8]) -> Result<Opcode, Stop>
 pub(crate) fn act_of(word: &[u8]) -> Result<Act, Stop>
     ensures { Gives (λ x. x) result (values.act_of word.now) }
 {
-    if is(word, b"store") {
-        return Ok(Act::Store);
+    match word {
+        b"store" => Ok(Act::Store),
+        b"ret" => Ok(Act::Ret),
+        b"br" => Ok(Act::Br),
+        _ => long_act_of(word),
     }
-    if is(word, b"ret") {
-        return Ok(Act::Ret);
-    }
-    if is(word, b"br") {
-        return Ok(Act::Br);
-    }
+}
+
+/// The same of the words of more than five bytes.
+fn long_act_of(word: &[u8]) -> Result<Act, Stop>
+    ensures { Gives (λ x. x) result (values.long_act_of word.now) }
+{
     if is(word, b"switch") {
         return Ok(Act::Switch);
     }
@@ -154,35 +160,17 @@ pub(crate) fn act_of(word: &[u8]) -> Result<Act, Stop>
 pub(crate) fn pred_of(word: &[u8]) -> Result<Pred, Stop>
     ensures { Gives (λ x. x) result (values.pred_of word.now) }
 {
-    if is(word, b"eq") {
-        return Ok(Pred::Eq);
+    match word {
+        b"eq" => Ok(Pred::Eq),
+        b"ne" => Ok(Pred::Ne),
+        b"ugt" => Ok(Pred::Ugt),
+        b"uge" => Ok(Pred::Uge),
+        b"ult" => Ok(Pred::Ult),
+        b"ule" => Ok(Pred::Ule),
+        b"sgt" => Ok(Pred::Sgt),
+        b"sge" => Ok(Pred::Sge),
+        b"slt" => Ok(Pred::Slt),
+        b"sle" => Ok(Pred::Sle),
+        _ => Err(Stop::NotALine),
     }
-    if is(word, b"ne") {
-        return Ok(Pred::Ne);
-    }
-    if is(word, b"ugt") {
-        return Ok(Pred::Ugt);
-    }
-    if is(word, b"uge") {
-        return Ok(Pred::Uge);
-    }
-    if is(word, b"ult") {
-        return Ok(Pred::Ult);
-    }
-    if is(word, b"ule") {
-        return Ok(Pred::Ule);
-    }
-    if is(word, b"sgt") {
-        return Ok(Pred::Sgt);
-    }
-    if is(word, b"sge") {
-        return Ok(Pred::Sge);
-    }
-    if is(word, b"slt") {
-        return Ok(Pred::Slt);
-    }
-    if is(word, b"sle") {
-        return Ok(Pred::Sle);
-    }
-    Err(Stop::NotALine)
 }

@@ -23,22 +23,14 @@ use vx_num::Lane;
 pub(crate) fn width_of(word: &[u8]) -> Result<u8, Stop>
     ensures { Gives (λ x. x) result (values.width_of word.now) }
 {
-    if is(word, b"i1") {
-        return Ok(1);
+    match word {
+        b"i1" => Ok(1),
+        b"i8" => Ok(8),
+        b"i16" => Ok(16),
+        b"i32" => Ok(32),
+        b"i64" => Ok(64),
+        _ => Err(Stop::NotALine),
     }
-    if is(word, b"i8") {
-        return Ok(8);
-    }
-    if is(word, b"i16") {
-        return Ok(16);
-    }
-    if is(word, b"i32") {
-        return Ok(32);
-    }
-    if is(word, b"i64") {
-        return Ok(64);
-    }
-    Err(Stop::NotALine)
 }
 
 /// A number by its value, below 2^64.
