@@ -11,16 +11,15 @@ ghost use Rattle.ir_words.specs.Values as values;
 ghost use Rattle.ir_forms.specs.Grammar.{read};
 ghost use Rattle.ir_forms.specs.Forms as forms;
 
-use ir_words::kinds::Kind;
-use ir_words::opcode::{Act, act_of};
 use crate::operands::{aligned, also, also_target, case_number, labelled, local, target, typed};
-use ir_draft::Stop;
-use ir_words::types::kind;
 use crate::value_lines::{finish, value_line};
-use ir_words::words::{expect, next};
-use ir_draft::{Arg, Args, Line, Stmt};
+use ir_draft::{Arg, Args, Line, Stmt, Stop};
 use ir_lex::Token;
 use ir_types::{Bytes, Literal, Lits, Names, Numbers, Op, Ty};
+use ir_words::kinds::Kind;
+use ir_words::opcode::{Act, act_of};
+use ir_words::types::kind;
+use ir_words::words::{expect, next};
 use std::alloc::{AllocError, Global};
 
 /// A store.

@@ -8,15 +8,14 @@ ghost use Rattle.ir_words.specs.Words.{Gives, one};
 ghost use Rattle.ir_words.specs.Values as values;
 ghost use Rattle.ir_forms.specs.Operands as operands;
 
+use ir_draft::{Arg, Stop, Written};
+use ir_lex::{Token, text};
+use ir_types::{Bytes, Lits, Ty};
 use ir_words::kinds::{Kind, bits_of, is_pointer, lanes_of};
 use ir_words::literals::{lanes, literal};
-use ir_draft::Stop;
 use ir_words::types::{kind, row_of};
 use ir_words::values::{align_of, bits_number, label_of, local_of, symbol_of};
 use ir_words::words::{behind, expect, is_first, next};
-use ir_draft::{Arg, Written};
-use ir_lex::{Token, text};
-use ir_types::{Bytes, Lits, Ty};
 use std::alloc::Global;
 use vx_num::Lane;
 

@@ -7,12 +7,11 @@ ghost use Rattle.ir_lex.specs.Words.{words};
 ghost use Rattle.ir_words.specs.Words.{Gives};
 ghost use Rattle.ir_forms.specs.Operands as operands;
 
-use ir_draft::Arg;
 use crate::operands::{local, operand};
-use ir_draft::Stop;
-use ir_words::words::{behind, expect, is_first};
+use ir_draft::{Arg, Stop};
 use ir_lex::Token;
 use ir_types::{Names, Numbers, Ty};
+use ir_words::words::{behind, expect, is_first};
 use std::alloc::Global;
 use vx_list::Seq;
 

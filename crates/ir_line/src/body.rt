@@ -10,13 +10,12 @@ ghost use Rattle.ir_line.specs.Body as body;
 ghost use Rattle.ir_line.specs.Answers.{Answers, IsNumbered};
 ghost use Rattle.ir_draft.specs.declared.line.Line.{Line};
 
-use ir_forms::act_lines::form;
 use crate::calls::call;
 use crate::headers::front;
-use ir_draft::Stop;
-use ir_words::words::{all_ascii, is, is_first};
-use ir_draft::{Line, LineRefusal};
+use ir_draft::{Line, LineRefusal, Stop};
+use ir_forms::act_lines::form;
 use ir_lex::{Token, text};
+use ir_words::words::{all_ascii, is, is_first};
 use memchr::memchr;
 use std::alloc::Global;
 

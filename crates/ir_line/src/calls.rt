@@ -9,18 +9,17 @@ ghost use Rattle.ir_words.specs.Words.{Gives};
 ghost use Rattle.ir_forms.specs.Operands as operands;
 ghost use Rattle.ir_line.specs.Calls as calls;
 
-use ir_words::flags::has;
 use crate::headers::{
     attrs_len, callee, depth_after, front, is_banned, ret_of, skip, span, ty_len,
 };
+use ir_draft::{Arg, Args, Line, Stmt, Stop, Written};
 use ir_forms::operands::{local, operand};
-use ir_draft::Stop;
+use ir_lex::{Token, text};
+use ir_types::{Bytes, CallSite, Names, Op, Texts, Ty};
+use ir_words::flags::has;
 use ir_words::types::ty;
 use ir_words::values::is_plain;
 use ir_words::words::{is, is_first};
-use ir_draft::{Arg, Args, Line, Stmt, Written};
-use ir_lex::{Token, text};
-use ir_types::{Bytes, CallSite, Names, Op, Texts, Ty};
 use std::alloc::Global;
 use vx_list::{Boxed, Seq};
 

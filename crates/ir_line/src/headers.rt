@@ -9,15 +9,14 @@ ghost use Rattle.ir_words.specs.Values as values;
 ghost use Rattle.ir_words.specs.Reading as reading;
 ghost use Rattle.ir_line.specs.Headers as headers;
 
-use ir_draft::Head;
 use crate::keeping::is_digits;
+use ir_draft::{Head, Stop};
 use ir_forms::operands::local;
-use ir_draft::Stop;
+use ir_lex::{Token, text};
+use ir_types::{Bytes, Id, Param, Params, Ty};
 use ir_words::types::ty;
 use ir_words::values::{copied, is_plain, symbol_of};
 use ir_words::words::{all_ascii, is, is_first, next};
-use ir_lex::{Token, text};
-use ir_types::{Bytes, Id, Param, Params, Ty};
 use std::alloc::Global;
 
 /// What is left behind so many tokens.

@@ -9,14 +9,13 @@ ghost use Rattle.ir_line.specs.Keeping as keeping;
 ghost use Rattle.ir_words.specs.Values as values;
 ghost use Rattle.ir_words.specs.Words.{Gives};
 
-use ir_draft::Kept;
-use ir_words::flags::has;
-use ir_words::layout::{any_big, any_other, string_of};
-use ir_draft::Stop;
-use ir_words::values::{all_digits, begins_name, copied, symbol_of};
-use ir_words::words::{behind, is, is_first};
+use ir_draft::{Kept, Stop};
 use ir_lex::{Token, text};
 use ir_types::Bytes;
+use ir_words::flags::has;
+use ir_words::layout::{any_big, any_other, string_of};
+use ir_words::values::{all_digits, begins_name, copied, symbol_of};
+use ir_words::words::{behind, is, is_first};
 use std::alloc::Global;
 
 /// Whether bytes are a plain name.

@@ -12,10 +12,9 @@ ghost use Rattle.ir_draft.specs.declared.line.Line.{Line};
 use crate::body::numbered;
 use crate::headers::{ends_open, header};
 use crate::keeping::{first_symbol, is_kept, kept};
-use ir_draft::Stop;
-use ir_words::words::is_first;
-use ir_draft::{Line, LineRefusal};
+use ir_draft::{Line, LineRefusal, Stop};
 use ir_lex::Token;
+use ir_words::words::is_first;
 use std::alloc::Global;
 
 /// Whether a line is the first of a function.

@@ -7,8 +7,8 @@ ghost use Rattle.ir_lex.specs.Words.{words};
 ghost use Rattle.ir_words.specs.Words.{Gives};
 ghost use Rattle.ir_words.specs.Reading as reading;
 
-use ir_draft::Stop;
 use crate::words::is;
+use ir_draft::Stop;
 use ir_lex::{Token, text};
 
 /// The flags that an operation can have.
@@ -108,11 +108,7 @@ pub fn flags<'a>(
 }
 
 /// So many tokens at the front, and the rest.
-pub fn split<'a>(
-    line: &'a [u8],
-    tokens: &'a [Token],
-    count: usize,
-) -> (&'a [Token], &'a [Token])
+pub fn split<'a>(line: &'a [u8], tokens: &'a [Token], count: usize) -> (&'a [Token], &'a [Token])
     requires { count ≤ length tokens.now }
     ensures { (words line.now result.0.now, words line.now result.1.now) ≡ reading.split count (words line.now tokens.now) }
 {

@@ -7,8 +7,8 @@ ghost use Rattle.std.specs.List.{prefix_len};
 ghost use Rattle.ir_lex.specs.Words.{words};
 ghost use Rattle.ir_words.specs.Layout as layout;
 
-use vx_digits::number;
 use ir_lex::{Token, text};
+use vx_digits::number;
 
 /// Whether a part of the string ends here.
 fn ends_part(bytes: &[u8]) -> bool

@@ -9,11 +9,10 @@ ghost use Rattle.ir_words.specs.Words.{Gives, one};
 ghost use Rattle.ir_words.specs.Values as values;
 ghost use Rattle.ir_words.specs.Reading as reading;
 
-use ir_draft::Written;
-use ir_draft::Stop;
 use crate::types::width;
 use crate::values::lane_of;
 use crate::words::{behind, expect, is_first, next};
+use ir_draft::{Stop, Written};
 use ir_lex::Token;
 use ir_types::{Literal, Lits, Ty};
 use std::alloc::{AllocError, Global};

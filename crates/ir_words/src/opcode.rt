@@ -6,8 +6,8 @@ ghost use Rattle.std.specs.Prelude.{◌≡◌};
 ghost use Rattle.ir_words.specs.Words.{Gives};
 ghost use Rattle.ir_words.specs.Values as values;
 
-use ir_draft::Stop;
 use crate::words::is;
+use ir_draft::Stop;
 use vx_num::{BinOp, CastOp, Pred};
 
 /// An operation that has a result (Language Reference, "Instruction Reference").

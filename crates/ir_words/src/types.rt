@@ -12,9 +12,9 @@ ghost use Rattle.ir_words.specs.Values as values;
 ghost use Rattle.ir_words.specs.Reading as reading;
 
 use crate::kinds::{Kind, fits};
-use ir_draft::Stop;
 use crate::values::{number_of, width_of};
 use crate::words::{behind, expect, is_first, next};
+use ir_draft::Stop;
 use ir_lex::Token;
 use ir_types::{Elem, Ty};
 
@@ -82,11 +82,7 @@ pub fn ty<'a>(line: &'a [u8], tokens: &'a [Token]) -> Result<(Ty, &'a [Token]), 
 
 /// A type of a kind.
 #[tactic(auto, unfolding(crate::specs::Reading::kind_at))]
-pub fn kind<'a>(
-    kind: Kind,
-    line: &'a [u8],
-    tokens: &'a [Token],
-) -> Result<(Ty, &'a [Token]), Stop>
+pub fn kind<'a>(kind: Kind, line: &'a [u8], tokens: &'a [Token]) -> Result<(Ty, &'a [Token]), Stop>
     ensures { Gives (λ x. (x.0, words line.now x.1.now)) result (reading.kind_at kind (words line.now tokens.now)) }
 {
     let (ty, rest) = ty(line, tokens)?;
@@ -149,11 +145,7 @@ fn array<'a>(line: &'a [u8], tokens: &'a [Token]) -> Result<(Elem, &'a [Token]),
 
 /// One value of a kind, or an array.
 #[tactic(auto, unfolding(crate::specs::Reading::elem_at))]
-pub fn elem<'a>(
-    one: Kind,
-    line: &'a [u8],
-    tokens: &'a [Token],
-) -> Result<(Elem, &'a [Token]), Stop>
+pub fn elem<'a>(one: Kind, line: &'a [u8], tokens: &'a [Token]) -> Result<(Elem, &'a [Token]), Stop>
     ensures { Gives (λ x. (x.0, words line.now x.1.now)) result (reading.elem_at one (words line.now tokens.now)) }
 {
     if is_first(line, tokens, b"[") {

@@ -11,8 +11,8 @@ ghost use Rattle.ir_words.specs.Values.{is_some};
 ghost use Rattle.ir_words.specs.Words.{Gives};
 ghost use Rattle.ir_words.specs.Values as values;
 
-use ir_draft::Stop;
 use crate::words::is;
+use ir_draft::Stop;
 use ir_types::Bytes;
 use std::alloc::{AllocError, Global};
 use vx_digits::{fitting, negative, number};

@@ -30,11 +30,7 @@ pub fn next<'a>(line: &'a [u8], tokens: &'a [Token]) -> Result<(&'a [u8], &'a [T
 }
 
 /// What is left behind the word.
-pub fn expect<'a>(
-    line: &'a [u8],
-    tokens: &'a [Token],
-    word: &[u8],
-) -> Result<&'a [Token], Stop>
+pub fn expect<'a>(line: &'a [u8], tokens: &'a [Token], word: &[u8]) -> Result<&'a [Token], Stop>
     ensures { Gives (λ x. words line.now x.now) result (front.expect word.now (words line.now tokens.now)) }
 {
     match tokens {
