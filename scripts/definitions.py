@@ -25,7 +25,7 @@ ROWS = [
     ("a lexical fault", "A control byte, or the opening quote of a string that does not close.", "ir_lex/specs/Faults.antt", "is_fault", None),
     ("the first fault", "A fault with none before it.", "ir_lex/specs/Faults.antt", "FirstFault", None),
     ("the words of a line", "The bytes of its tokens.", "ir_lex/specs/Words.antt", "words", None),
-    ("a form of a line in a function", "Its free choices, the line that it is, and its parts in order.", "ir_line/specs/Forms.antt", "Form", "Instruction Reference"),
+    ("a form of a line in a function", "Its free choices, the line that it is, and its parts in order.", "ir_forms/specs/Forms.antt", "Form", "Instruction Reference"),
     ("what a line in a function spells", "No token, a brace, a form or a call, after which attachments may stand.", "ir_line/specs/Body.antt", "Spells", "Instruction Reference"),
     ("what a line outside functions spells", "Nothing, a line that is kept, or the first line of a function.", "ir_line/specs/Outside.antt", "Spells", "Module Structure"),
     ("a header", "What stands between `define` and the last brace.", "ir_line/specs/Headers.antt", "header", "Functions"),

@@ -6,9 +6,9 @@ use Rattle.std.specs.declared.option.Option.{Option}
 use Rattle.std.specs.declared.option.Option.TheVariants.{None, Some}
 use Rattle.ir_lex.specs.declared.list.Token.{Token}
 use Rattle.ir_line.specs.declared.calls.Arguments.{Arguments}
-use Rattle.ir_line.specs.declared.written.Arg.{Arg}
+use Rattle.ir_draft.specs.declared.written.Arg.{Arg}
 use Rattle.ir_lex.specs.Words.{words}
-use Rattle.ir_line.specs.Words.{is_first}
+use Rattle.ir_words.specs.Words.{is_first}
 use Rattle.ir_line.specs.Calls.{with_arguments, one_argument, arguments_within, argument, argument_at, behind_argument}
 
 -- one more before those that are read is the same as one more of those that are found

@@ -3,10 +3,10 @@ use Rattle.std.proofs.Common.{◌≡◌, ℕ, ◌+◌, ◌<◌, true, false, Lis
 use Rattle.ir_types.specs.declared.op.Op.{Op}
 use Rattle.ir_types.specs.declared.op.Op.TheVariants.{Phi, Ret, Br, CondBr, Switch, Unreachable}
 use Rattle.ir_types.specs.Formed.{is_phi, is_alloca}
-use Rattle.ir_line.specs.declared.stmt.Stmt.{Stmt}
-use Rattle.ir_line.specs.declared.line.Line.{Line}
-use Rattle.ir_line.specs.declared.line.Line.TheVariants as line
-use Rattle.ir_line.specs.declared.draft.Numbered.{Numbered}
+use Rattle.ir_draft.specs.declared.stmt.Stmt.{Stmt}
+use Rattle.ir_draft.specs.declared.line.Line.{Line}
+use Rattle.ir_draft.specs.declared.line.Line.TheVariants as line
+use Rattle.ir_draft.specs.declared.draft.Numbered.{Numbered}
 use Rattle.ir_line.specs.Sound.{IsSound, IsSoundCase, IsCallOp}
 use Rattle.ir_line.proofs.WholeLines.{IsWhole}
 

@@ -3,17 +3,18 @@ use Rattle.std.proofs.Common.{◌≡◌, ℕ, Bool, true, false, cond, List, [],
 use Rattle.std.specs.List.{list_all}
 use Rattle.ir_lex.specs.declared.list.Token.{Token}
 use Rattle.ir_lex.specs.Words.{word, words}
-use Rattle.ir_line.specs.declared.line.Line.{Line}
-use Rattle.ir_line.specs.declared.line.Line.TheVariants.{Close}
-use Rattle.ir_line.specs.Values.{width_of, local_of, act_of}
-use Rattle.ir_line.specs.Words.{Words, is_ascii}
-use Rattle.ir_line.specs.Reading.{ty_at, kind_at, labelled_at}
-use Rattle.ir_line.specs.Grammar.{read}
-use Rattle.ir_line.specs.Forms.{Form, slots, Spell, line_of, form, plain_line, act_line, choices, choice}
+use Rattle.ir_draft.specs.declared.line.Line.{Line}
+use Rattle.ir_draft.specs.declared.line.Line.TheVariants.{Close}
+use Rattle.ir_words.specs.Values.{width_of, local_of, act_of}
+use Rattle.ir_words.specs.Words.{Words, is_ascii}
+use Rattle.ir_words.specs.Reading.{ty_at, kind_at}
+use Rattle.ir_forms.specs.Operands.{labelled_at}
+use Rattle.ir_forms.specs.Grammar.{read}
+use Rattle.ir_forms.specs.Forms.{Form, slots, Spell, line_of, form, plain_line, act_line, choices, choice}
 use Rattle.ir_line.specs.Calls.{call}
 use Rattle.ir_line.specs.Body.{Spells, NoWord, Brace, Formed, Called, unattached, is_brace, or_call, read_form, read_body}
-use Rattle.ir_line.proofs.Steps.{nothing, clash, some_is, cond_then, bytes_is}
-use Rattle.ir_line.proofs.Trees.{form_spelled, form_read}
+use Rattle.ir_forms.proofs.Steps.{nothing, clash, some_is, cond_then, bytes_is}
+use Rattle.ir_forms.proofs.Trees.{form_spelled, form_read}
 use Rattle.ir_line.proofs.CallLines.{call_apart, no_token, one_token}
 
 -- no form has no word, and none is a brace

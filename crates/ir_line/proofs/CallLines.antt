@@ -3,14 +3,15 @@ use Rattle.std.proofs.Common.{◌≡◌, ℕ, Bool, true, false, cond, ◌||◌,
 use Rattle.ir_lex.specs.declared.list.Token.{Token}
 use Rattle.ir_lex.specs.Words.{word, words}
 use Rattle.ir_lex.specs.Bytes.{begins_name}
-use Rattle.ir_line.specs.declared.line.Line.{Line}
-use Rattle.ir_line.specs.Values.{width_of, local_of, label_of, symbol_of, opcode_of, act_of}
-use Rattle.ir_line.specs.Words.{Words, one, is_first, behind}
-use Rattle.ir_line.specs.Reading.{ty_at, kind_at, labelled_at}
-use Rattle.ir_line.specs.Grammar.{read}
-use Rattle.ir_line.specs.Forms.{line_of, form, value_line, plain_line, act_line, choices, choice}
+use Rattle.ir_draft.specs.declared.line.Line.{Line}
+use Rattle.ir_words.specs.Values.{width_of, local_of, label_of, symbol_of, opcode_of, act_of}
+use Rattle.ir_words.specs.Words.{Words, one, is_first, behind}
+use Rattle.ir_words.specs.Reading.{ty_at, kind_at}
+use Rattle.ir_forms.specs.Operands.{labelled_at}
+use Rattle.ir_forms.specs.Grammar.{read}
+use Rattle.ir_forms.specs.Forms.{line_of, form, value_line, plain_line, act_line, choices, choice}
 use Rattle.ir_line.specs.Calls.{symbol_from, call_behind, call_for, call}
-use Rattle.ir_line.proofs.Steps.{nothing, clash, bind_then, cond_then, choose_then, bytes_is, first_is}
+use Rattle.ir_forms.proofs.Steps.{nothing, clash, bind_then, cond_then, choose_then, bytes_is, first_is}
 
 -- what a call begins with, behind the name of its result
 data Begins : Words → Type 0 where

@@ -2,11 +2,11 @@
 use Rattle.std.proofs.Common.{◌≡◌, ℕ, Bool, true, false, ◌||◌, List, [], ◌∷◌, Some, refl, sym, ◌∙◌, subst, codes}
 use Rattle.ir_lex.specs.declared.list.Token.{Token}
 use Rattle.ir_lex.specs.Words.{words}
-use Rattle.ir_line.specs.declared.line.Line.{Line}
-use Rattle.ir_line.specs.Words.{Words, is_first}
+use Rattle.ir_draft.specs.declared.line.Line.{Line}
+use Rattle.ir_words.specs.Words.{Words, is_first}
 use Rattle.ir_line.specs.Keeping.{is_kept, keeps_word, keeps_marked, keeps_mark}
 use Rattle.ir_line.specs.Outside.{Spells, NoWord, KeptLine, Defined, is_define, read_outside}
-use Rattle.ir_line.proofs.Steps.{nothing, clash, some_is, cond_then, both_true, bytes_is}
+use Rattle.ir_forms.proofs.Steps.{nothing, clash, some_is, cond_then, both_true, bytes_is}
 
 -- a `define` line is not kept
 define_word : (equals : Bool) → keeps_word (codes "define") || keeps_marked (codes "define") equals ≡ false

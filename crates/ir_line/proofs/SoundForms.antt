@@ -14,24 +14,25 @@ use Rattle.ir_types.specs.declared.ty.Ty.{Ty}
 use Rattle.ir_types.specs.declared.ty.Ty.TheVariants.{Void, Int, Ptr, Row}
 use Rattle.ir_types.specs.declared.ty.Elem.{Elem}
 use Rattle.ir_types.specs.Typed.{is_width, is_vector, is_number, is_value, is_stored, lane_width, with_width, IsAlign, IsAlignIfAny, IsElem, IsStep, has_flags, Converts, IsEntry}
-use Rattle.ir_line.specs.declared.kinds.Kind.{Kind}
-use Rattle.ir_line.specs.declared.kinds.Kind.TheVariants as kind
-use Rattle.ir_line.specs.declared.flags.FlagSet.{FlagSet}
-use Rattle.ir_line.specs.declared.flags.FlagSet.TheVariants.{Plain, Wrap, Exact, Disjoint}
-use Rattle.ir_line.specs.declared.written.Written.{Written}
-use Rattle.ir_line.specs.declared.written.Arg.{Arg}
-use Rattle.ir_line.specs.declared.pairs.Incoming.{Incoming}
-use Rattle.ir_line.specs.Kinds.{fits, bits_of, is_cast}
-use Rattle.ir_line.specs.Words.{Words}
-use Rattle.ir_line.specs.Values.{width_of}
-use Rattle.ir_line.specs.Reading.{has, allows, length_of, item_of, is_entry, are_entries, is_row, both}
-use Rattle.ir_line.specs.Pieces.{Led, SpellsKind, SpellsTyped, SpellsOperand, Named, Global, Literal, SpellsAligned, Absent, Given, SpellsElem, Single, Items, SpellsMask, Entries, SpellsPair, Pair, SpellsPairs, LastPair, MorePairs}
-use Rattle.ir_line.specs.Forms.{arg, flags_of, truth_of, bin_flags, cast_flags, cast_kind}
+use Rattle.ir_words.specs.declared.kinds.Kind.{Kind}
+use Rattle.ir_words.specs.declared.kinds.Kind.TheVariants as kind
+use Rattle.ir_words.specs.declared.flags.FlagSet.{FlagSet}
+use Rattle.ir_words.specs.declared.flags.FlagSet.TheVariants.{Plain, Wrap, Exact, Disjoint}
+use Rattle.ir_draft.specs.declared.written.Written.{Written}
+use Rattle.ir_draft.specs.declared.written.Arg.{Arg}
+use Rattle.ir_forms.specs.declared.pairs.Incoming.{Incoming}
+use Rattle.ir_words.specs.Kinds.{fits, bits_of, is_cast}
+use Rattle.ir_words.specs.Words.{Words}
+use Rattle.ir_words.specs.Values.{width_of}
+use Rattle.ir_words.specs.Reading.{has, allows, length_of, item_of, is_row}
+use Rattle.ir_forms.specs.Operands.{is_entry, are_entries, both}
+use Rattle.ir_forms.specs.Pieces.{Led, SpellsKind, SpellsTyped, SpellsOperand, Named, Global, Literal, SpellsAligned, Absent, Given, SpellsElem, Single, Items, SpellsMask, Entries, SpellsPair, Pair, SpellsPairs, LastPair, MorePairs}
+use Rattle.ir_forms.specs.Forms.{arg, flags_of, truth_of, bin_flags, cast_flags, cast_kind}
 use Rattle.ir_line.specs.Sound.{IsSoundOpd, written_types}
-use Rattle.ir_line.proofs.Steps.{clash, bind_then, when_then, both_true, not_true, bytes_is}
-use Rattle.ir_line.proofs.LaneValues.{ty_value, width_is, lanes_fit, lanes_count, row_is}
-use Rattle.ir_line.proofs.PowerAligns.{aligned}
-use Rattle.ir_line.proofs.TypesOfKinds as types
+use Rattle.ir_forms.proofs.Steps.{clash, bind_then, when_then, both_true, not_true, bytes_is}
+use Rattle.ir_forms.proofs.LaneValues.{ty_value, width_is, lanes_fit, lanes_count, row_is}
+use Rattle.ir_forms.proofs.PowerAligns.{aligned}
+use Rattle.ir_forms.proofs.TypesOfKinds as types
 
 -- operands
 

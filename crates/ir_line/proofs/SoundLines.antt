@@ -6,22 +6,22 @@ use Rattle.ir_lex.specs.declared.list.Token.{Token}
 use Rattle.ir_types.specs.declared.ty.Ty.{Ty}
 use Rattle.ir_types.specs.declared.ty.Ty.TheVariants.{Int, Ptr, Row}
 use Rattle.ir_types.specs.Typed.{is_width, is_vector, is_number, is_value, lane_width, with_width, Converts}
-use Rattle.ir_line.specs.declared.kinds.Kind.TheVariants as kind
-use Rattle.ir_line.specs.declared.written.Arg.{Arg}
-use Rattle.ir_line.specs.declared.line.Line.{Line}
-use Rattle.ir_line.specs.Kinds.{bits_of}
-use Rattle.ir_line.specs.Words.{Words, is_first, one as one'}
-use Rattle.ir_line.specs.Reading.{has}
-use Rattle.ir_line.specs.Values.{local_of, symbol_of}
+use Rattle.ir_words.specs.declared.kinds.Kind.TheVariants as kind
+use Rattle.ir_draft.specs.declared.written.Arg.{Arg}
+use Rattle.ir_draft.specs.declared.line.Line.{Line}
+use Rattle.ir_words.specs.Kinds.{bits_of}
+use Rattle.ir_words.specs.Words.{Words, is_first, one as one'}
+use Rattle.ir_words.specs.Reading.{has}
+use Rattle.ir_words.specs.Values.{local_of, symbol_of}
 use Rattle.ir_line.specs.Headers.{ret_of}
 use Rattle.ir_line.specs.Calls.{call, call_for, call_behind, symbol_from, arguments_at, names_result, may_follow, behind_tail, tail_of}
 use Rattle.ir_line.specs.Body.{Spells, NoWord, Brace, Formed, Called, unattached}
 use Rattle.ir_lex.specs.Words.{words}
-use Rattle.ir_line.specs.Forms.{Form, Label, Choice, ChoicesEnd, Binary, Compare, Convert, Select, Extract, Insert, Shuffle, Step, StepInto, Load, Allocate, Phi, Store, Return, ReturnValue, Jump, Branch, Switch, Unreachable, slots, Spell, line_of, arg}
+use Rattle.ir_forms.specs.Forms.{Form, Label, Choice, ChoicesEnd, Binary, Compare, Convert, Select, Extract, Insert, Shuffle, Step, StepInto, Load, Allocate, Phi, Store, Return, ReturnValue, Jump, Branch, Switch, Unreachable, slots, Spell, line_of, arg}
 use Rattle.ir_line.specs.Sound.{IsSoundOpd, IsSoundLine, IsCallLine, IsSoundUncalled}
-use Rattle.ir_line.proofs.Steps.{nothing, bind_then, choose_then, cond_then, when_then}
-use Rattle.ir_line.proofs.LaneValues.{number_below}
-use Rattle.ir_line.proofs.TypesOfKinds as types
+use Rattle.ir_forms.proofs.Steps.{nothing, bind_then, choose_then, cond_then, when_then}
+use Rattle.ir_forms.proofs.LaneValues.{number_below}
+use Rattle.ir_forms.proofs.TypesOfKinds as types
 use Rattle.ir_line.proofs.SoundForms as forms
 use Rattle.ir_line.proofs.SoundForms.{Fine, Shuffled, Paired}
 

@@ -9,22 +9,22 @@ use Rattle.ir_types.specs.declared.ty.Ty.TheVariants.{Ptr}
 use Rattle.ir_types.specs.declared.op.Op.{Op}
 use Rattle.ir_types.specs.declared.op.Op.TheVariants as ops
 use Rattle.ir_types.specs.Formed.{is_store}
-use Rattle.ir_line.specs.declared.kinds.Kind.{Kind}
-use Rattle.ir_line.specs.declared.written.Written.{Written}
-use Rattle.ir_line.specs.declared.written.Written.TheVariants.{Symbol}
-use Rattle.ir_line.specs.declared.written.Arg.{Arg}
-use Rattle.ir_line.specs.declared.stmt.Stmt.{Stmt}
-use Rattle.ir_line.specs.declared.pairs.Incoming.{Incoming}
-use Rattle.ir_line.specs.declared.line.Line.{Line}
-use Rattle.ir_line.specs.declared.line.Line.TheVariants as lines
-use Rattle.ir_line.specs.Words.{Words}
-use Rattle.ir_line.specs.Pieces.{Led, SpellsTyped, SpellsOperand, Named, Global, Literal, SpellsPair, Pair, SpellsPairs, LastPair, MorePairs}
-use Rattle.ir_line.specs.Forms.{Form, Label, Choice, ChoicesEnd, Binary, Compare, Convert, Select, Extract, Insert, Shuffle, Step, StepInto, Load, Allocate, Phi, Store, Return, ReturnValue, Jump, Branch, Switch, Unreachable, slots, Spell, line_of, arg}
+use Rattle.ir_words.specs.declared.kinds.Kind.{Kind}
+use Rattle.ir_draft.specs.declared.written.Written.{Written}
+use Rattle.ir_draft.specs.declared.written.Written.TheVariants.{Symbol}
+use Rattle.ir_draft.specs.declared.written.Arg.{Arg}
+use Rattle.ir_draft.specs.declared.stmt.Stmt.{Stmt}
+use Rattle.ir_forms.specs.declared.pairs.Incoming.{Incoming}
+use Rattle.ir_draft.specs.declared.line.Line.{Line}
+use Rattle.ir_draft.specs.declared.line.Line.TheVariants as lines
+use Rattle.ir_words.specs.Words.{Words}
+use Rattle.ir_forms.specs.Pieces.{Led, SpellsTyped, SpellsOperand, Named, Global, Literal, SpellsPair, Pair, SpellsPairs, LastPair, MorePairs}
+use Rattle.ir_forms.specs.Forms.{Form, Label, Choice, ChoicesEnd, Binary, Compare, Convert, Select, Extract, Insert, Shuffle, Step, StepInto, Load, Allocate, Phi, Store, Return, ReturnValue, Jump, Branch, Switch, Unreachable, slots, Spell, line_of, arg}
 use Rattle.ir_line.specs.Body.{Spells, NoWord, Brace, Formed, Called, unattached}
 use Rattle.ir_line.specs.Sound.{IsCallLine}
-use Rattle.ir_line.proofs.Steps.{clash}
+use Rattle.ir_forms.proofs.Steps.{clash}
 use Rattle.ir_line.proofs.SoundLines.{call_is}
-use Rattle.ir_line.proofs.TypesOfKinds as types
+use Rattle.ir_forms.proofs.TypesOfKinds as types
 
 -- a symbol is a pointer
 abbrev pub IsPointed : Ty → Written → Type 0

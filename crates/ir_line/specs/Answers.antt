@@ -1,8 +1,8 @@
 -- How the entry points answer.
 use Rattle.std.specs.Prelude.{◌≡◌, ℕ, Option, Some, None, Result, Ok, Err}
-use Rattle.ir_line.specs.declared.line.Line.{Line}
-use Rattle.ir_line.specs.declared.refusal.LineRefusal.{LineRefusal}
-use Rattle.ir_line.specs.declared.refusal.LineRefusal.TheVariants.{NotALine, OutOfMemory}
+use Rattle.ir_draft.specs.declared.line.Line.{Line}
+use Rattle.ir_draft.specs.declared.refusal.LineRefusal.{LineRefusal}
+use Rattle.ir_draft.specs.declared.refusal.LineRefusal.TheVariants.{NotALine, OutOfMemory}
 
 -- the refusal names the line by its number
 abbrev pub IsNumbered : ℕ → LineRefusal → Type 0

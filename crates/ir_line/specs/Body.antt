@@ -3,12 +3,12 @@ use Rattle.std.specs.Prelude.{◌≡◌, ℕ, suc, Bool, true, false, ◌&&◌, 
 use Rattle.std.specs.List.{list_all}
 use Rattle.ir_lex.specs.declared.list.Token.{Token}
 use Rattle.ir_lex.specs.Words.{words}
-use Rattle.ir_line.specs.declared.line.Line.{Line}
-use Rattle.ir_line.specs.declared.line.Line.TheVariants.{Empty, Close}
-use Rattle.ir_line.specs.Words.{Words, is_ascii}
+use Rattle.ir_draft.specs.declared.line.Line.{Line}
+use Rattle.ir_draft.specs.declared.line.Line.TheVariants.{Empty, Close}
+use Rattle.ir_words.specs.Words.{Words, is_ascii}
 use Rattle.ir_line.specs.Calls.{call}
-use Rattle.ir_line.specs.Forms.{Form, slots, Spell, line_of, form}
-use Rattle.ir_line.specs.Grammar.{read}
+use Rattle.ir_forms.specs.Forms.{Form, slots, Spell, line_of, form}
+use Rattle.ir_forms.specs.Grammar.{read}
 
 -- whether a word begins with `!`
 abbrev pub is_mark : List ℕ → Bool

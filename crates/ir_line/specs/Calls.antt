@@ -10,16 +10,16 @@ use Rattle.ir_lex.specs.Words.{word, words}
 use Rattle.ir_types.specs.declared.ty.Ty.{Ty}
 use Rattle.ir_types.specs.declared.ty.Ty.TheVariants.{Void, Int}
 use Rattle.ir_types.specs.declared.op.Op.TheVariants as ops
-use Rattle.ir_line.specs.declared.written.Written.{Written}
-use Rattle.ir_line.specs.declared.written.Written.TheVariants.{Lit}
-use Rattle.ir_line.specs.declared.written.Arg.{Arg}
+use Rattle.ir_draft.specs.declared.written.Written.{Written}
+use Rattle.ir_draft.specs.declared.written.Written.TheVariants.{Lit}
+use Rattle.ir_draft.specs.declared.written.Arg.{Arg}
 use Rattle.ir_line.specs.declared.calls.Arguments.{Arguments}
-use Rattle.ir_line.specs.declared.line.Line.{Line}
-use Rattle.ir_line.specs.declared.line.Line.TheVariants as lines
-use Rattle.ir_line.specs.Values.{width_of, decimal_of, bits_number, lane_of, local_of, named, symbol_of}
-use Rattle.ir_line.specs.Words.{Words, one, is_first}
-use Rattle.ir_line.specs.Reading.{has, choose, ty_at, lanes_at, literal_at, symbol_at, unnamed_at, operand_at}
-use Rattle.ir_line.specs.Keeping.{is_some}
+use Rattle.ir_draft.specs.declared.line.Line.{Line}
+use Rattle.ir_draft.specs.declared.line.Line.TheVariants as lines
+use Rattle.ir_words.specs.Values.{width_of, decimal_of, bits_number, lane_of, local_of, named, symbol_of, is_some}
+use Rattle.ir_words.specs.Words.{Words, one, is_first}
+use Rattle.ir_words.specs.Reading.{has, ty_at, lanes_at, literal_at}
+use Rattle.ir_forms.specs.Operands.{choose, symbol_at, unnamed_at, operand_at}
 use Rattle.ir_line.specs.Headers.{span, depth_after, attrs_len, is_banned, ty_len, ret_of}
 
 -- the callee

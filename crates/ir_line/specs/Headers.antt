@@ -10,11 +10,11 @@ use Rattle.ir_lex.specs.Words.{word, words}
 use Rattle.ir_types.specs.declared.ty.Ty.{Ty}
 use Rattle.ir_types.specs.declared.ty.Ty.TheVariants.{Void, Row}
 use Rattle.ir_types.specs.declared.func.Param.{Param}
-use Rattle.ir_line.specs.declared.head.Head.{Head}
-use Rattle.ir_line.specs.Values.{local_of, symbol_of}
-use Rattle.ir_line.specs.Words.{Words, one, is_first, is_ascii}
-use Rattle.ir_line.specs.Reading.{ty_at}
-use Rattle.ir_line.specs.Keeping.{is_digits, is_some}
+use Rattle.ir_draft.specs.declared.head.Head.{Head}
+use Rattle.ir_words.specs.Values.{local_of, symbol_of, is_some}
+use Rattle.ir_words.specs.Words.{Words, one, is_first, is_ascii}
+use Rattle.ir_words.specs.Reading.{ty_at}
+use Rattle.ir_line.specs.Keeping.{is_digits}
 
 -- the bytes from the first to the last of these tokens
 abbrev pub last_to : ℕ → List Token → ℕ

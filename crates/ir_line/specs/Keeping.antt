@@ -3,11 +3,11 @@ use Rattle.std.specs.Prelude.{ℕ, ◌-◌, Bool, true, false, not, ◌&&◌, �
 use Rattle.std.specs.List.{list_all, prefix_len}
 use Rattle.std.specs.Char.{is_ascii_digit}
 use Rattle.ir_lex.specs.Bytes.{begins_name}
-use Rattle.ir_line.specs.declared.kept.Kept.{Kept}
-use Rattle.ir_line.specs.Values.{symbol_of}
-use Rattle.ir_line.specs.Words.{Words, is_first, behind}
-use Rattle.ir_line.specs.Reading.{has}
-use Rattle.ir_line.specs.Layout.{any_big, any_other, string_of}
+use Rattle.ir_draft.specs.declared.kept.Kept.{Kept}
+use Rattle.ir_words.specs.Values.{symbol_of, is_some}
+use Rattle.ir_words.specs.Words.{Words, is_first, behind}
+use Rattle.ir_words.specs.Reading.{has}
+use Rattle.ir_words.specs.Layout.{any_big, any_other, string_of}
 
 -- a plain name
 abbrev pub is_name : List ℕ → Bool
@@ -71,10 +71,6 @@ first_symbol (t ∷ ts) = or_later (symbol_of t) (first_symbol ts)
 
 abbrev pub declared : Words → Option (List ℕ)
 declared ts = cond (is_first (codes "declare") ts) (first_symbol ts) None
-
-abbrev pub is_some : Option (List ℕ) → Bool
-is_some None = false
-is_some (Some name) = true
 
 -- whether a symbol is no global of its own
 abbrev pub is_indirect : Words → Bool

@@ -2,9 +2,9 @@
 use Rattle.std.specs.Prelude.{◌≡◌, ℕ, Bool, true, ◌&&◌, cond, Option, Some, None, List, [], ◌∷◌, codes}
 use Rattle.ir_lex.specs.declared.list.Token.{Token}
 use Rattle.ir_lex.specs.Words.{words}
-use Rattle.ir_line.specs.declared.line.Line.{Line}
-use Rattle.ir_line.specs.declared.line.Line.TheVariants.{Empty, Kept, Define}
-use Rattle.ir_line.specs.Words.{is_first}
+use Rattle.ir_draft.specs.declared.line.Line.{Line}
+use Rattle.ir_draft.specs.declared.line.Line.TheVariants.{Empty, Kept, Define}
+use Rattle.ir_words.specs.Words.{is_first}
 use Rattle.ir_line.specs.Keeping.{is_kept, kept_of, first_symbol}
 use Rattle.ir_line.specs.Headers.{header, ends_open}
 

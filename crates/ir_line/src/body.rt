@@ -5,18 +5,17 @@
 ghost use Rattle.std.specs.Prelude.{◌≡◌, ◌≤◌, length, bytes_eq, IfOk, IfErr, Option, Some};
 ghost use Rattle.ir_lex.specs.Tokens.{Lexed};
 ghost use Rattle.ir_lex.specs.Words.{words};
-ghost use Rattle.ir_line.specs.Words.{Gives};
+ghost use Rattle.ir_words.specs.Words.{Gives};
 ghost use Rattle.ir_line.specs.Body as body;
 ghost use Rattle.ir_line.specs.Answers.{Answers, IsNumbered};
-ghost use Rattle.ir_line.specs.declared.line.Line.{Line};
+ghost use Rattle.ir_draft.specs.declared.line.Line.{Line};
 
-use crate::act_lines::form;
 use crate::calls::call;
 use crate::headers::front;
-use crate::refusal::Stop;
-use crate::words::{all_ascii, is, is_first};
-use crate::{Line, LineRefusal};
+use ir_draft::{Line, LineRefusal, Stop};
+use ir_forms::act_lines::form;
 use ir_lex::{Token, text};
+use ir_words::words::{all_ascii, is, is_first};
 use memchr::memchr;
 use std::alloc::Global;
 

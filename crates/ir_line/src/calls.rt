@@ -5,22 +5,21 @@
 
 ghost use Rattle.std.specs.Prelude.{◌≡◌, ◌≤◌, ◌<◌, ◌-◌, ◌^◌, Some, length};
 ghost use Rattle.ir_lex.specs.Words.{words};
-ghost use Rattle.ir_line.specs.Words.{Gives};
-ghost use Rattle.ir_line.specs.Reading as reading;
+ghost use Rattle.ir_words.specs.Words.{Gives};
+ghost use Rattle.ir_forms.specs.Operands as operands;
 ghost use Rattle.ir_line.specs.Calls as calls;
 
-use crate::flags::has;
 use crate::headers::{
     attrs_len, callee, depth_after, front, is_banned, ret_of, skip, span, ty_len,
 };
-use crate::operands::{local, operand};
-use crate::refusal::Stop;
-use crate::types::ty;
-use crate::values::is_plain;
-use crate::words::{is, is_first};
-use crate::{Arg, Args, Line, Stmt, Written};
+use ir_draft::{Arg, Args, Line, Stmt, Stop, Written};
+use ir_forms::operands::{local, operand};
 use ir_lex::{Token, text};
 use ir_types::{Bytes, CallSite, Names, Op, Texts, Ty};
+use ir_words::flags::has;
+use ir_words::types::ty;
+use ir_words::values::is_plain;
+use ir_words::words::{is, is_first};
 use std::alloc::Global;
 use vx_list::{Boxed, Seq};
 
@@ -100,7 +99,7 @@ fn argument_len(line: &[u8], tokens: &[Token]) -> usize
 
 /// An operand that is all of the words.
 fn whole_operand(alloc: Global, ty: Ty, line: &[u8], tokens: &[Token]) -> Result<Written, Stop>
-    ensures { Gives (λ x. x) result (calls.whole_operand (reading.operand_at ty (words line.now tokens.now))) }
+    ensures { Gives (λ x. x) result (calls.whole_operand (operands.operand_at ty (words line.now tokens.now))) }
 {
     match operand(alloc, ty, line, tokens)? {
         (opd, []) => Ok(opd),

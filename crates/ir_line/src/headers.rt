@@ -4,20 +4,19 @@
 
 ghost use Rattle.std.specs.Prelude.{◌≡◌, ◌≤◌, ◌<◌, ◌-◌, ◌^◌, [], Some, Option, option_map, length, take, drop};
 ghost use Rattle.ir_lex.specs.Words.{words};
-ghost use Rattle.ir_line.specs.Words.{Gives, one};
-ghost use Rattle.ir_line.specs.Values as values;
-ghost use Rattle.ir_line.specs.Reading as reading;
+ghost use Rattle.ir_words.specs.Words.{Gives, one};
+ghost use Rattle.ir_words.specs.Values as values;
+ghost use Rattle.ir_words.specs.Reading as reading;
 ghost use Rattle.ir_line.specs.Headers as headers;
 
-use crate::Head;
 use crate::keeping::is_digits;
-use crate::operands::local;
-use crate::refusal::Stop;
-use crate::types::ty;
-use crate::values::{copied, is_plain, symbol_of};
-use crate::words::{all_ascii, is, is_first, next};
+use ir_draft::{Head, Stop};
+use ir_forms::operands::local;
 use ir_lex::{Token, text};
 use ir_types::{Bytes, Id, Param, Params, Ty};
+use ir_words::types::ty;
+use ir_words::values::{copied, is_plain, symbol_of};
+use ir_words::words::{all_ascii, is, is_first, next};
 use std::alloc::Global;
 
 /// What is left behind so many tokens.

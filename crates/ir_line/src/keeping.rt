@@ -6,17 +6,16 @@ ghost use Rattle.std.specs.Prelude.{◌≡◌, Some, nat_eq, reverse};
 ghost use Rattle.std.specs.List.{prefix_len};
 ghost use Rattle.ir_lex.specs.Words.{words};
 ghost use Rattle.ir_line.specs.Keeping as keeping;
-ghost use Rattle.ir_line.specs.Values as values;
-ghost use Rattle.ir_line.specs.Words.{Gives};
+ghost use Rattle.ir_words.specs.Values as values;
+ghost use Rattle.ir_words.specs.Words.{Gives};
 
-use crate::Kept;
-use crate::flags::has;
-use crate::layout::{any_big, any_other, string_of};
-use crate::refusal::Stop;
-use crate::values::{all_digits, begins_name, copied, symbol_of};
-use crate::words::{behind, is, is_first};
+use ir_draft::{Kept, Stop};
 use ir_lex::{Token, text};
 use ir_types::Bytes;
+use ir_words::flags::has;
+use ir_words::layout::{any_big, any_other, string_of};
+use ir_words::values::{all_digits, begins_name, copied, symbol_of};
+use ir_words::words::{behind, is, is_first};
 use std::alloc::Global;
 
 /// Whether bytes are a plain name.

@@ -4,7 +4,7 @@
 
 ghost use Rattle.std.specs.Prelude.{◌≡◌, ℕ, List};
 ghost use Rattle.ir_lex.specs.declared.list.Token.{Token};
-ghost use Rattle.ir_line.specs.declared.line.Line.{Line};
+ghost use Rattle.ir_draft.specs.declared.line.Line.{Line};
 ghost use Rattle.ir_line.specs.Body as body;
 ghost use Rattle.ir_line.specs.Outside as outside;
 ghost use Rattle.ir_line.specs.Sound as sound;

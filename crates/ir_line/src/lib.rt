@@ -4,47 +4,23 @@
 //! one form that the line spells, or refuses where it spells none, or for want of memory. Names are as they are written.
 //!
 //! Inside, the rest of a line is its bytes and the tokens that are left; nothing is copied but what a form keeps. The time is
-//! linear in the line.
+//! linear in the line. The types of the answers are `ir_draft`'s, and are given on from here.
 #![tactic(auto)]
 
-mod act_lines;
-mod args;
 mod body;
 mod calls;
-mod draft;
-mod flags;
-mod head;
 mod headers;
 mod keeping;
-mod kept;
-mod kinds;
 mod laws;
-mod layout;
-mod line;
-mod literals;
-mod opcode;
-mod operands;
 mod outside;
-mod pairs;
-mod refusal;
-mod stmt;
-mod types;
-mod value_lines;
-mod values;
-mod words;
-mod written;
 
-pub use args::Args;
 pub use body::body_line;
-pub use draft::{Body, Draft, DraftItem, DraftItems, Numbered};
-pub use head::Head;
-pub use kept::Kept;
+pub use ir_draft::{
+    Arg, Args, Body, Draft, DraftItem, DraftItems, Head, Kept, Line, LineRefusal, Numbered, Stmt,
+    Written,
+};
 pub use laws::{lines_are_sound, one_body_form, one_outside_form};
-pub use line::Line;
 pub use outside::module_line;
-pub use refusal::LineRefusal;
-pub use stmt::Stmt;
-pub use written::{Arg, Written};
 
 #[cfg(test)]
 mod tests;

@@ -4,18 +4,17 @@
 
 ghost use Rattle.std.specs.Prelude.{◌≡◌, ◌≤◌, length, IfOk, IfErr, Option, Some};
 ghost use Rattle.ir_lex.specs.Tokens.{Lexed};
-ghost use Rattle.ir_line.specs.Words.{Gives};
+ghost use Rattle.ir_words.specs.Words.{Gives};
 ghost use Rattle.ir_line.specs.Outside as outside;
 ghost use Rattle.ir_line.specs.Answers.{Answers, IsNumbered};
-ghost use Rattle.ir_line.specs.declared.line.Line.{Line};
+ghost use Rattle.ir_draft.specs.declared.line.Line.{Line};
 
 use crate::body::numbered;
 use crate::headers::{ends_open, header};
 use crate::keeping::{first_symbol, is_kept, kept};
-use crate::refusal::Stop;
-use crate::words::is_first;
-use crate::{Line, LineRefusal};
+use ir_draft::{Line, LineRefusal, Stop};
 use ir_lex::Token;
+use ir_words::words::is_first;
 use std::alloc::Global;
 
 /// Whether a line is the first of a function.

@@ -5,9 +5,9 @@ use Rattle.vx_digits.specs.Numbers.{number_of}
 use Rattle.ir_types.specs.declared.op.Op.{Op}
 use Rattle.ir_types.specs.declared.op.Op.TheVariants as ops
 use Rattle.ir_types.specs.declared.func.Param.{Param}
-use Rattle.ir_line.specs.declared.stmt.Stmt.{Stmt}
-use Rattle.ir_line.specs.declared.line.Line.{Line}
-use Rattle.ir_line.specs.declared.line.Line.TheVariants as line
+use Rattle.ir_draft.specs.declared.stmt.Stmt.{Stmt}
+use Rattle.ir_draft.specs.declared.line.Line.{Line}
+use Rattle.ir_draft.specs.declared.line.Line.TheVariants as line
 use Rattle.ir_read.specs.declared.position.Position.{Position}
 use Rattle.ir_read.specs.declared.position.Spot.{Spot}
 use Rattle.ir_read.specs.declared.position.Spot.TheVariants.{Between, Front, Behind, Cases}

@@ -5,9 +5,9 @@ use Rattle.ir_lex.specs.declared.list.Token.{Token}
 use Rattle.ir_lex.specs.Scan.{fault_of, cut}
 use Rattle.ir_lex.specs.Tokens.{Lexed}
 use Rattle.ir_lex.specs.Words.{words}
-use Rattle.ir_line.specs.declared.line.Line.{Line}
-use Rattle.ir_line.specs.declared.line.Line.TheVariants as line
-use Rattle.ir_line.specs.Forms.{Form, Label, line_of}
+use Rattle.ir_draft.specs.declared.line.Line.{Line}
+use Rattle.ir_draft.specs.declared.line.Line.TheVariants as line
+use Rattle.ir_forms.specs.Forms.{Form, Label, line_of}
 use Rattle.ir_line.specs.Sound.{IsCallLine}
 use Rattle.ir_line.specs.Body.{Spells, NoWord, Brace, Formed, Called, unattached, is_brace, read_form, read_body}
 use Rattle.ir_line.proofs.BodyLines.{body_spelled}

@@ -6,7 +6,7 @@ use Rattle.ir_lex.specs.Faults.{FirstFault, IsRefusal}
 use Rattle.ir_lex.specs.Tokens.{Lexed}
 use Rattle.ir_lex.specs.Scan.{fault_of, cut}
 use Rattle.ir_lex.proofs.Laws.{lexed_is, fault_some}
-use Rattle.ir_line.specs.declared.line.Line.{Line}
+use Rattle.ir_draft.specs.declared.line.Line.{Line}
 use Rattle.ir_line.specs.Body as inside
 use Rattle.ir_line.specs.Body.{read_body}
 use Rattle.ir_line.specs.Outside as outside

@@ -5,9 +5,9 @@ use Rattle.ir_lex.specs.Scan.{cut, fault_of}
 use Rattle.ir_types.specs.declared.op.Op.{Op}
 use Rattle.ir_types.specs.declared.op.Op.TheVariants as ops
 use Rattle.ir_types.specs.Formed.{is_phi, is_alloca}
-use Rattle.ir_line.specs.declared.stmt.Stmt.{Stmt}
-use Rattle.ir_line.specs.declared.line.Line.{Line}
-use Rattle.ir_line.specs.declared.line.Line.TheVariants as line
+use Rattle.ir_draft.specs.declared.stmt.Stmt.{Stmt}
+use Rattle.ir_draft.specs.declared.line.Line.{Line}
+use Rattle.ir_draft.specs.declared.line.Line.TheVariants as line
 use Rattle.ir_line.specs.Body.{Spells}
 use Rattle.ir_line.specs.Sound.{IsCallOp, IsCallLine, IsSoundUncalled}
 use Rattle.ir_line.proofs.BodyLines.{body_spelled}

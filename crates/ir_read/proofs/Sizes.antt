@@ -1,12 +1,12 @@
 -- A draft that was read has the size that its items have; so it is within the limits exactly where they are.
 use Rattle.std.proofs.Common.{◌≡◌, ℕ, ◌+◌, Bool, true, false, cond, List, [], ◌∷◌, ◌++◌, length, max, Option, Some, None, Result, Ok, Err, refl, sym, ◌∙◌, ap, subst, arith}
-use Rattle.ir_line.specs.declared.head.Head.{Head}
-use Rattle.ir_line.specs.declared.line.Line.{Line}
-use Rattle.ir_line.specs.declared.line.Line.TheVariants as line
-use Rattle.ir_line.specs.declared.draft.Draft.{Draft}
-use Rattle.ir_line.specs.declared.draft.Numbered.{Numbered}
-use Rattle.ir_line.specs.declared.draft.DraftItem.{DraftItem}
-use Rattle.ir_line.specs.declared.draft.DraftItem.TheVariants as item
+use Rattle.ir_draft.specs.declared.head.Head.{Head}
+use Rattle.ir_draft.specs.declared.line.Line.{Line}
+use Rattle.ir_draft.specs.declared.line.Line.TheVariants as line
+use Rattle.ir_draft.specs.declared.draft.Draft.{Draft}
+use Rattle.ir_draft.specs.declared.draft.Numbered.{Numbered}
+use Rattle.ir_draft.specs.declared.draft.DraftItem.{DraftItem}
+use Rattle.ir_draft.specs.declared.draft.DraftItem.TheVariants as item
 use Rattle.ir_read.specs.declared.outlook.Outlook.{Outlook}
 use Rattle.ir_read.specs.declared.open_function.OpenFunction.{OpenFunction as Open}
 use Rattle.ir_read.specs.declared.position.Position.{Position}

@@ -1,8 +1,8 @@
 -- The lines of a function's body with their numbers.
 use Rattle.std.specs.Prelude.{◌≡◌, refl, ℕ, ◌+◌, List, [], ◌∷◌}
-use Rattle.ir_line.specs.declared.line.Line.{Line}
-use Rattle.ir_line.specs.declared.line.Line.TheVariants.{Empty, CasesEnd}
-use Rattle.ir_line.specs.declared.draft.Numbered.{Numbered}
+use Rattle.ir_draft.specs.declared.line.Line.{Line}
+use Rattle.ir_draft.specs.declared.line.Line.TheVariants.{Empty, CasesEnd}
+use Rattle.ir_draft.specs.declared.draft.Numbered.{Numbered}
 
 -- lines of these forms, the first of which has the number n; empty lines are counted and dropped
 abbrev pub numbered_from : ℕ → List Line → List Numbered

@@ -10,12 +10,12 @@
 -- Empty lines, which are those without a token, are dropped, also from the bodies of functions of the profile. `Examples` has small
 -- texts and what they are.
 use Rattle.std.specs.Prelude.{ℕ, ◌+◌, cond, Option, None, Some, Result, Ok, Err, List, [], ◌∷◌, ◌++◌}
-use Rattle.ir_line.specs.declared.line.Line.{Line}
-use Rattle.ir_line.specs.declared.line.Line.TheVariants as line
-use Rattle.ir_line.specs.declared.head.Head.{Head}
-use Rattle.ir_line.specs.declared.draft.Draft.{Draft}
-use Rattle.ir_line.specs.declared.draft.DraftItem.TheVariants.{Kept as KeptItem, Opaque as OpaqueItem, Func}
-use Rattle.ir_line.specs.declared.kept.Kept.{Kept}
+use Rattle.ir_draft.specs.declared.line.Line.{Line}
+use Rattle.ir_draft.specs.declared.line.Line.TheVariants as line
+use Rattle.ir_draft.specs.declared.head.Head.{Head}
+use Rattle.ir_draft.specs.declared.draft.Draft.{Draft}
+use Rattle.ir_draft.specs.declared.draft.DraftItem.TheVariants.{Kept as KeptItem, Opaque as OpaqueItem, Func}
+use Rattle.ir_draft.specs.declared.kept.Kept.{Kept}
 use Rattle.ir_read.specs.declared.outlook.Outlook.{Outlook}
 use Rattle.ir_read.specs.declared.open_function.OpenFunction.{OpenFunction as Open}
 use Rattle.ir_read.specs.declared.position.Position.{Position}

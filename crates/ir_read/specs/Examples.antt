@@ -5,13 +5,14 @@ use Rattle.ir_lex.specs.Scan.{cut, more_len, name_len}
 use Rattle.ir_lex.specs.Words.{word}
 use Rattle.ir_types.specs.declared.ty.Ty.TheVariants.{Void}
 use Rattle.ir_types.specs.declared.op.Op.TheVariants.{Ret}
-use Rattle.ir_line.specs.declared.line.Line.TheVariants.{Stmt}
-use Rattle.ir_line.specs.declared.draft.DraftItem.TheVariants.{Func, Opaque}
+use Rattle.ir_draft.specs.declared.line.Line.TheVariants.{Stmt}
+use Rattle.ir_draft.specs.declared.draft.DraftItem.TheVariants.{Func, Opaque}
 use Rattle.ir_line.specs.Keeping.{keeps_mark, keeps_word}
-use Rattle.ir_line.specs.Values.{symbol_of, local_of, act_of, width_of, label_of}
-use Rattle.ir_line.specs.Reading.{labelled_at, kind_at, ty_at}
+use Rattle.ir_words.specs.Values.{symbol_of, local_of, act_of, width_of, label_of}
+use Rattle.ir_forms.specs.Operands.{labelled_at}
+use Rattle.ir_words.specs.Reading.{kind_at, ty_at}
 use Rattle.ir_line.specs.Calls.{call, call_for}
-use Rattle.ir_line.specs.Forms.{form, plain_line, act_line, by_act, returns, choices, choice}
+use Rattle.ir_forms.specs.Forms.{form, plain_line, act_line, by_act, returns, choices, choice}
 use Rattle.ir_line.specs.Headers.{header, head_of, ret_of, params_at}
 use Rattle.ir_line.specs.Body.{read_body, read_form}
 use Rattle.ir_line.specs.Outside.{read_outside}

@@ -5,8 +5,8 @@
 use Rattle.std.specs.Prelude.{ℕ, Bool, true, false, cond, Option, None, Some, List, [], ◌∷◌}
 use Rattle.ir_lex.specs.declared.list.Token.{Token}
 use Rattle.ir_lex.specs.Scan.{fault_of, cut}
-use Rattle.ir_line.specs.declared.line.Line.{Line}
-use Rattle.ir_line.specs.declared.line.Line.TheVariants.{Define, Close}
+use Rattle.ir_draft.specs.declared.line.Line.{Line}
+use Rattle.ir_draft.specs.declared.line.Line.TheVariants.{Define, Close}
 use Rattle.ir_line.specs.Body.{read_body}
 use Rattle.ir_line.specs.Outside.{read_outside}
 

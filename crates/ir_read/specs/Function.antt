@@ -2,13 +2,13 @@
 use Rattle.std.specs.Prelude.{ℕ, Bool, true, false, not, ◌||◌, cond, Result, Ok, Err, List, [], ◌∷◌, ◌++◌}
 use Rattle.ir_types.specs.declared.op.Op.{Op}
 use Rattle.ir_types.specs.declared.op.Op.TheVariants.{Alloca, Call}
-use Rattle.ir_line.specs.declared.written.Written.{Written}
-use Rattle.ir_line.specs.declared.written.Written.TheVariants.{Symbol}
-use Rattle.ir_line.specs.declared.written.Arg.{Arg}
-use Rattle.ir_line.specs.declared.stmt.Stmt.{Stmt}
-use Rattle.ir_line.specs.declared.head.Head.{Head}
-use Rattle.ir_line.specs.declared.line.Line.{Line}
-use Rattle.ir_line.specs.declared.line.Line.TheVariants as line
+use Rattle.ir_draft.specs.declared.written.Written.{Written}
+use Rattle.ir_draft.specs.declared.written.Written.TheVariants.{Symbol}
+use Rattle.ir_draft.specs.declared.written.Arg.{Arg}
+use Rattle.ir_draft.specs.declared.stmt.Stmt.{Stmt}
+use Rattle.ir_draft.specs.declared.head.Head.{Head}
+use Rattle.ir_draft.specs.declared.line.Line.{Line}
+use Rattle.ir_draft.specs.declared.line.Line.TheVariants as line
 use Rattle.ir_read.specs.declared.open_function.OpenFunction.{OpenFunction as Open}
 use Rattle.ir_read.specs.declared.position.Position.{Position}
 use Rattle.ir_read.specs.declared.refusal.ReadRefusal.{ReadRefusal}

@@ -4,8 +4,8 @@
 -- module elsewhere; a line with a lexical fault has none. Each line stands where it may or is of an opaque function, and so they are the
 -- items of a draft.
 use Rattle.std.specs.Prelude.{◌≡◌, ℕ, ◌+◌, Bool, Option, None, Result, Ok, Err, List, [], ◌∷◌}
-use Rattle.ir_line.specs.declared.line.Line.{Line}
-use Rattle.ir_line.specs.declared.draft.DraftItem.{DraftItem}
+use Rattle.ir_draft.specs.declared.line.Line.{Line}
+use Rattle.ir_draft.specs.declared.draft.DraftItem.{DraftItem}
 use Rattle.ir_read.specs.declared.outlook.Outlook.{Outlook}
 use Rattle.ir_read.specs.declared.progress.Done.{Done}
 use Rattle.ir_read.specs.declared.refusal.ReadRefusal.{ReadRefusal}

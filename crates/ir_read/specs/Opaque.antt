@@ -4,9 +4,9 @@
 -- Whether such a line stands where it may is not asked: a line that is misplaced may still be followed by one that is outside the profile.
 use Rattle.std.specs.Prelude.{◌≡◌, refl, ℕ, suc, ◌+◌, ◌-◌, Bool, true, false, ◌||◌, cond, Option, None, Some, List, [], ◌∷◌, ◌++◌, codes, drop, take}
 use Rattle.ir_types.specs.declared.op.Op.{Op}
-use Rattle.ir_line.specs.declared.head.Head.{Head}
-use Rattle.ir_line.specs.declared.line.Line.{Line}
-use Rattle.ir_line.specs.declared.line.Line.TheVariants as line
+use Rattle.ir_draft.specs.declared.head.Head.{Head}
+use Rattle.ir_draft.specs.declared.line.Line.{Line}
+use Rattle.ir_draft.specs.declared.line.Line.TheVariants as line
 use Rattle.ir_read.specs.declared.outlook.Outlook.{Outlook}
 use Rattle.ir_read.specs.declared.position.Position.{Position}
 use Rattle.ir_read.specs.declared.position.Spot.TheVariants.{Between, Front}

@@ -3,10 +3,10 @@
 -- No operand may name a function, which is one that a `define` line or a `declare` line names, or a symbol that is no global.
 use Rattle.std.specs.Prelude.{ℕ, Bool, false, ◌||◌, cond, Option, None, Some, Result, List, [], ◌∷◌, ◌++◌, bytes_eq}
 use Rattle.std.specs.List.{list_any}
-use Rattle.ir_line.specs.declared.line.Line.{Line}
-use Rattle.ir_line.specs.declared.line.Line.TheVariants as line
-use Rattle.ir_line.specs.declared.kept.Kept.{Kept}
-use Rattle.ir_line.specs.declared.head.Head.{Head}
+use Rattle.ir_draft.specs.declared.line.Line.{Line}
+use Rattle.ir_draft.specs.declared.line.Line.TheVariants as line
+use Rattle.ir_draft.specs.declared.kept.Kept.{Kept}
+use Rattle.ir_draft.specs.declared.head.Head.{Head}
 use Rattle.ir_read.specs.declared.outlook.Outlook.{Outlook}
 use Rattle.ir_read.specs.declared.refusal.ReadRefusal.{ReadRefusal}
 use Rattle.ir_read.specs.Faults.{fault_at, unless}

@@ -6,7 +6,7 @@ use Rattle.std.specs.Prelude.{ℕ, ◌+◌, Bool, true, false, not, ◌&&◌, co
 use Rattle.ir_types.specs.declared.op.Op.{Op}
 use Rattle.ir_types.specs.declared.op.Op.TheVariants.{Phi, Ret, Br, CondBr, Switch, Unreachable}
 use Rattle.ir_types.specs.Formed.{is_phi}
-use Rattle.ir_line.specs.declared.stmt.Stmt.{Stmt}
+use Rattle.ir_draft.specs.declared.stmt.Stmt.{Stmt}
 use Rattle.ir_read.specs.declared.position.Position.{Position}
 use Rattle.ir_read.specs.declared.position.Spot.{Spot}
 use Rattle.ir_read.specs.declared.position.Spot.TheVariants.{Between, Front, Behind, Cases}

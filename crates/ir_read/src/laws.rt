@@ -3,7 +3,7 @@
 //! Each law is the contract of a function that does nothing.
 
 ghost use Rattle.std.specs.Prelude.{◌≡◌, ℕ, List, Ok};
-ghost use Rattle.ir_line.specs.declared.draft.Draft.{Draft};
+ghost use Rattle.ir_draft.specs.declared.draft.Draft.{Draft};
 ghost use Rattle.ir_read.specs.Draft.{draft_of};
 ghost use Rattle.ir_read.specs.Items.{IsItems};
 

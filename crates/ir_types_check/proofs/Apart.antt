@@ -1,7 +1,7 @@
 -- Labels of which none stands twice.
 use Rattle.std.proofs.Common.{◌≡◌, ℕ, true, false, ◌&&◌, cond, List, [], ◌∷◌, Some, None, refl, ap}
 use Rattle.std.specs.Str.{bytes_eq}
-use Rattle.ir_line.specs.declared.written.Arg.{Arg}
+use Rattle.ir_draft.specs.declared.written.Arg.{Arg}
 use Rattle.ir_types_check.specs.Typed.{agree, is_brought}
 
 pub one_agrees : (a : List ℕ) (args : List Arg) → agree [] (a ∷ []) args ≡ true

@@ -14,7 +14,7 @@ use Rattle.ir_types.specs.declared.func.Block.{Block}
 use Rattle.ir_types.specs.Available.{op_targets, targets_of, block_targets}
 use Rattle.ir_types.specs.Walks.{targets_at}
 use Rattle.ir_types.specs.Formed.{is_terminator, ends_from, EndsOnce}
-use Rattle.ir_line.specs.declared.draft.Numbered.{Numbered}
+use Rattle.ir_draft.specs.declared.draft.Numbered.{Numbered}
 use Rattle.ir_types_check.specs.declared.outline.At.{At}
 use Rattle.ir_types_check.specs.declared.locals.Meaning.{Meaning}
 use Rattle.ir_types_check.specs.declared.tops.Top.{Top}

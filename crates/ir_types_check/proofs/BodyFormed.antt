@@ -15,10 +15,10 @@ use Rattle.ir_types.specs.declared.module.Item.TheVariants.{Func as FuncItem}
 use Rattle.ir_types.specs.declared.module.Module.{Module}
 use Rattle.ir_types.specs.Typed.{is_value}
 use Rattle.ir_types.specs.Formed.{or_else, ty_in_blocks, value_ty, block_ids, item_ids, is_terminator, IsFormedInst, IsFormedFunc}
-use Rattle.ir_line.specs.declared.head.Head.{Head}
-use Rattle.ir_line.specs.declared.stmt.Stmt.{Stmt}
-use Rattle.ir_line.specs.declared.line.Line.TheVariants as line
-use Rattle.ir_line.specs.declared.draft.Numbered.{Numbered}
+use Rattle.ir_draft.specs.declared.head.Head.{Head}
+use Rattle.ir_draft.specs.declared.stmt.Stmt.{Stmt}
+use Rattle.ir_draft.specs.declared.line.Line.TheVariants as line
+use Rattle.ir_draft.specs.declared.draft.Numbered.{Numbered}
 use Rattle.ir_line.proofs.Bodies as stage
 use Rattle.ir_line.proofs.Bodies.{Stage, stage_behind, begun_behind, IsBodyFrom, IsBody}
 use Rattle.ir_types_check.specs.declared.outline.At.{At}

@@ -13,8 +13,8 @@ use Rattle.ir_types.specs.Available.{op_targets, graph_of}
 use Rattle.ir_types.specs.Walks.{targets_at}
 use Rattle.ir_types.specs.Typed.{IsTyped}
 use Rattle.ir_types.specs.Formed.{opd_ty, IsOpd, is_alloca, IsTarget, IsIncoming, IsCalling, IsFormedInst}
-use Rattle.ir_line.specs.declared.stmt.Stmt.{Stmt}
-use Rattle.ir_line.specs.declared.draft.Numbered.{Numbered}
+use Rattle.ir_draft.specs.declared.stmt.Stmt.{Stmt}
+use Rattle.ir_draft.specs.declared.draft.Numbered.{Numbered}
 use Rattle.ir_line.specs.Sound.{HasPlaces, IsCallOp, written_types}
 use Rattle.ir_line.proofs.WholeLines.{ArePlaced}
 use Rattle.ir_line.proofs.Bodies.{stage_after, begun}

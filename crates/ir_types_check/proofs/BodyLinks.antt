@@ -8,9 +8,9 @@ use Rattle.ir_types.specs.declared.opd.Opd.{Opd}
 use Rattle.ir_types.specs.declared.op.Op.{Op}
 use Rattle.ir_types.specs.declared.op.Op.TheVariants as ops
 use Rattle.ir_types.specs.Available.{op_targets}
-use Rattle.ir_line.specs.declared.written.Arg.{Arg}
-use Rattle.ir_line.specs.declared.stmt.Stmt.{Stmt}
-use Rattle.ir_line.specs.declared.draft.Numbered.{Numbered}
+use Rattle.ir_draft.specs.declared.written.Arg.{Arg}
+use Rattle.ir_draft.specs.declared.stmt.Stmt.{Stmt}
+use Rattle.ir_draft.specs.declared.draft.Numbered.{Numbered}
 use Rattle.ir_line.specs.Sound.{HasPlaces, IsCallOp}
 use Rattle.ir_line.proofs.WholeLines.{ArePairsFrom, ArePlaced}
 use Rattle.ir_types_check.specs.declared.locals.Meaning.{Meaning}

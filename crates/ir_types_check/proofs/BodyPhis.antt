@@ -6,9 +6,9 @@ use Rattle.std.specs.List.{All, AllZip}
 use Rattle.std.proofs.lemmas.List.Elements.{All-head, All-tail}
 use Rattle.ir_types.specs.declared.literal.Literal.{Literal}
 use Rattle.ir_types.specs.declared.opd.Opd.{Opd}
-use Rattle.ir_line.specs.declared.written.Written.{Written}
-use Rattle.ir_line.specs.declared.written.Written.TheVariants as written
-use Rattle.ir_line.specs.declared.written.Arg.{Arg}
+use Rattle.ir_draft.specs.declared.written.Written.{Written}
+use Rattle.ir_draft.specs.declared.written.Written.TheVariants as written
+use Rattle.ir_draft.specs.declared.written.Arg.{Arg}
 use Rattle.ir_line.proofs.WholeLines.{ArePairsFrom}
 use Rattle.ir_types_check.specs.declared.locals.Meaning.{Meaning}
 use Rattle.ir_types_check.specs.declared.tops.Top.{Top}

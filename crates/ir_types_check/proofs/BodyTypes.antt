@@ -12,10 +12,10 @@ use Rattle.ir_types.specs.declared.func.Func.{Func}
 use Rattle.ir_types.specs.declared.module.Module.{Module}
 use Rattle.ir_types.specs.Typed.{is_value, IsCase, IsTyped}
 use Rattle.ir_types.specs.Formed.{value_ty, opd_ty, IsOpd}
-use Rattle.ir_line.specs.declared.written.Written.{Written}
-use Rattle.ir_line.specs.declared.written.Written.TheVariants as written
-use Rattle.ir_line.specs.declared.written.Arg.{Arg}
-use Rattle.ir_line.specs.declared.stmt.Stmt.{Stmt}
+use Rattle.ir_draft.specs.declared.written.Written.{Written}
+use Rattle.ir_draft.specs.declared.written.Written.TheVariants as written
+use Rattle.ir_draft.specs.declared.written.Arg.{Arg}
+use Rattle.ir_draft.specs.declared.stmt.Stmt.{Stmt}
 use Rattle.ir_line.specs.Sound.{IsSoundOpd, IsSoundOp, written_types, IsCallOp}
 use Rattle.ir_line.proofs.WholeLines.{Pointed, IsPointed}
 use Rattle.ir_types_check.specs.declared.locals.Meaning.{Meaning}

@@ -1,7 +1,7 @@
 -- The names of a module, apart from those inside its functions and with them.
 use Rattle.std.proofs.Common.{◌≡◌, Result, Ok, Err, List, [], ◌∷◌, refl, ap, ◌∙◌, sym}
-use Rattle.ir_line.specs.declared.draft.DraftItem.{DraftItem}
-use Rattle.ir_line.specs.declared.draft.DraftItem.TheVariants as item
+use Rattle.ir_draft.specs.declared.draft.DraftItem.{DraftItem}
+use Rattle.ir_draft.specs.declared.draft.DraftItem.TheVariants as item
 use Rattle.ir_types_check.specs.declared.tops.Top.TheVariants.{Function}
 use Rattle.ir_types_check.specs.declared.tops.Tops.{Tops}
 use Rattle.ir_types_check.specs.declared.locals.Locals.{Locals}

@@ -11,11 +11,11 @@ use Rattle.ir_types.specs.declared.module.Item.{Item}
 use Rattle.ir_types.specs.declared.module.Item.TheVariants.{Kept, Opaque, Func as FuncItem}
 use Rattle.ir_types.specs.declared.module.Module.{Module}
 use Rattle.ir_types.specs.Formed.{IsFormedItem, item_ids, ids_of_items, ids_of}
-use Rattle.ir_line.specs.declared.head.Head.{Head}
-use Rattle.ir_line.specs.declared.draft.Numbered.{Numbered}
-use Rattle.ir_line.specs.declared.draft.Draft.{Draft}
-use Rattle.ir_line.specs.declared.draft.DraftItem.{DraftItem}
-use Rattle.ir_line.specs.declared.draft.DraftItem.TheVariants as item
+use Rattle.ir_draft.specs.declared.head.Head.{Head}
+use Rattle.ir_draft.specs.declared.draft.Numbered.{Numbered}
+use Rattle.ir_draft.specs.declared.draft.Draft.{Draft}
+use Rattle.ir_draft.specs.declared.draft.DraftItem.{DraftItem}
+use Rattle.ir_draft.specs.declared.draft.DraftItem.TheVariants as item
 use Rattle.ir_line.proofs.Bodies.{IsBody}
 use Rattle.ir_types_check.specs.declared.locals.Locals.{Locals}
 use Rattle.ir_types_check.specs.declared.tops.Top.{Top}

@@ -1,6 +1,6 @@
 -- A draft that resolves has names that stand for the module.
 use Rattle.std.proofs.Common.{◌≡◌, [], Result, Ok, Err, refl, ap}
-use Rattle.ir_line.specs.declared.draft.Draft.{Draft}
+use Rattle.ir_draft.specs.declared.draft.Draft.{Draft}
 use Rattle.ir_types_check.specs.declared.resolved.Resolved.{Resolved}
 use Rattle.ir_types_check.specs.declared.refusal.ResolveRefusal.{ResolveRefusal}
 use Rattle.ir_types_check.specs.Answers.{◌>>=◌}

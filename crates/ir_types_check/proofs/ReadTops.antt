@@ -2,8 +2,8 @@
 use Rattle.std.proofs.Common.{◌≡◌, ℕ, ◌+◌, Bool, true, false, List, [], ◌∷◌, ◌++◌, length, Option, Some, None, Ok, refl, sym, ◌∙◌, ap, subst, arith, append_assoc, inl, inr}
 use Rattle.std.proofs.lemmas.List.{append-nil}
 use Rattle.std.specs.Prelude.{slice_get}
-use Rattle.ir_line.specs.declared.draft.DraftItem.{DraftItem}
-use Rattle.ir_line.specs.declared.draft.DraftItem.TheVariants as item
+use Rattle.ir_draft.specs.declared.draft.DraftItem.{DraftItem}
+use Rattle.ir_draft.specs.declared.draft.DraftItem.TheVariants as item
 use Rattle.ir_types_check.specs.declared.tops.Top.{Top}
 use Rattle.ir_types_check.specs.declared.tops.Top.TheVariants.{Global, Function, Other}
 use Rattle.ir_types_check.specs.declared.tops.Tops.{Tops}

@@ -9,14 +9,14 @@ use Rattle.ir_types.specs.declared.opd.Opd.TheVariants.{Val, Lit}
 use Rattle.ir_types.specs.declared.literal.Literal.{Literal}
 use Rattle.ir_types.specs.declared.func.Param.{Param}
 use Rattle.ir_types.specs.declared.module.Item.TheVariants.{Func as FuncItem}
-use Rattle.ir_line.specs.declared.written.Written.TheVariants as written
-use Rattle.ir_line.specs.declared.written.Arg.{Arg}
-use Rattle.ir_line.specs.declared.line.Line.{Line}
-use Rattle.ir_line.specs.declared.line.Line.TheVariants.{Label, Stmt}
-use Rattle.ir_line.specs.declared.draft.Numbered.{Numbered}
-use Rattle.ir_line.specs.declared.draft.Draft.{Draft}
-use Rattle.ir_line.specs.declared.draft.DraftItem.{DraftItem}
-use Rattle.ir_line.specs.declared.draft.DraftItem.TheVariants.{Func}
+use Rattle.ir_draft.specs.declared.written.Written.TheVariants as written
+use Rattle.ir_draft.specs.declared.written.Arg.{Arg}
+use Rattle.ir_draft.specs.declared.line.Line.{Line}
+use Rattle.ir_draft.specs.declared.line.Line.TheVariants.{Label, Stmt}
+use Rattle.ir_draft.specs.declared.draft.Numbered.{Numbered}
+use Rattle.ir_draft.specs.declared.draft.Draft.{Draft}
+use Rattle.ir_draft.specs.declared.draft.DraftItem.{DraftItem}
+use Rattle.ir_draft.specs.declared.draft.DraftItem.TheVariants.{Func}
 use Rattle.ir_types_check.specs.declared.refusal.ResolveRefusal.TheVariants.{TwiceDefined, Unknown, IllTyped}
 use Rattle.ir_types_check.specs.Scope.{define}
 use Rattle.ir_types_check.specs.Outline.{opened, behind_param, behind_label, behind_inst}

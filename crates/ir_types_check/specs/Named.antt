@@ -4,7 +4,7 @@
 -- module.
 use Rattle.std.specs.Prelude.{◌≡◌, Ok, List, []}
 use Rattle.ir_types.specs.declared.module.Module.{Module}
-use Rattle.ir_line.specs.declared.draft.DraftItem.{DraftItem}
+use Rattle.ir_draft.specs.declared.draft.DraftItem.{DraftItem}
 use Rattle.ir_types_check.specs.declared.tops.Tops.{Tops}
 use Rattle.ir_types_check.specs.declared.building.Done.{Done}
 use Rattle.ir_types_check.specs.Tops.{tops_of}

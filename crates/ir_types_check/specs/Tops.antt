@@ -1,10 +1,10 @@
 -- The names of a module: kept lines `@name = ..`, functions and opaque items have one namespace. A `declare` line defines nothing.
 use Rattle.std.specs.Prelude.{ℕ, Bool, true, false, Option, None, Some, Result, Ok, List, [], ◌∷◌, ◌++◌, length, map}
 use Rattle.ir_types.specs.declared.func.Param.{Param}
-use Rattle.ir_line.specs.declared.head.Head.{Head}
-use Rattle.ir_line.specs.declared.draft.Numbered.{Numbered}
-use Rattle.ir_line.specs.declared.draft.DraftItem.{DraftItem}
-use Rattle.ir_line.specs.declared.draft.DraftItem.TheVariants as item
+use Rattle.ir_draft.specs.declared.head.Head.{Head}
+use Rattle.ir_draft.specs.declared.draft.Numbered.{Numbered}
+use Rattle.ir_draft.specs.declared.draft.DraftItem.{DraftItem}
+use Rattle.ir_draft.specs.declared.draft.DraftItem.TheVariants as item
 use Rattle.ir_types_check.specs.declared.tops.Signature.{Signature}
 use Rattle.ir_types_check.specs.declared.tops.Top.{Top}
 use Rattle.ir_types_check.specs.declared.tops.Top.TheVariants.{Global, Function, Other}

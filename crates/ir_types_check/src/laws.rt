@@ -3,7 +3,7 @@
 //! Each law is the contract of a function that does nothing.
 
 ghost use Rattle.std.specs.Prelude.{◌≡◌, Ok};
-ghost use Rattle.ir_line.specs.declared.draft.Draft.{Draft};
+ghost use Rattle.ir_draft.specs.declared.draft.Draft.{Draft};
 ghost use Rattle.ir_types_check.specs.declared.resolved.Resolved.{Resolved};
 ghost use Rattle.ir_types_check.specs.Resolved.{resolved_of};
 ghost use Rattle.ir_types_check.specs.Named.{Names};

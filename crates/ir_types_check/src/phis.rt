@@ -3,7 +3,7 @@
 //! `phi_fits` is the entry point; want of memory is the only failure.
 
 ghost use Rattle.std.specs.Prelude.{◌≡◌, true, List, [], IsTrue, IfOk, OnOk};
-ghost use Rattle.ir_line.specs.declared.written.Arg.{Arg};
+ghost use Rattle.ir_draft.specs.declared.written.Arg.{Arg};
 ghost use Rattle.ir_types_check.specs.Scope.{meaning};
 ghost use Rattle.ir_types_check.specs.Typed as typed;
 

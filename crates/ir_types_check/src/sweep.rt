@@ -5,7 +5,7 @@
 //! typed are kept aside, as one that is defined twice later comes first. Want of memory is the other failure.
 
 ghost use Rattle.std.specs.Prelude.{◌≡◌, [], None, Ok, IfOk, OnOk};
-ghost use Rattle.ir_line.specs.declared.draft.DraftItem.TheVariants.{Func as FuncItem};
+ghost use Rattle.ir_draft.specs.declared.draft.DraftItem.TheVariants.{Func as FuncItem};
 ghost use Rattle.ir_types_check.specs.Answers.{Gives};
 ghost use Rattle.ir_types_check.specs.InOrder as order;
 ghost use Rattle.ir_types_check.specs.Resolved as resolved;

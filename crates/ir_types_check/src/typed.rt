@@ -5,7 +5,7 @@
 
 ghost use Rattle.std.specs.Prelude.{◌≡◌, [], IfOk, OnOk};
 ghost use Rattle.std.specs.List.{list_all};
-ghost use Rattle.ir_line.specs.declared.line.Line.TheVariants.{Stmt as StmtLine};
+ghost use Rattle.ir_draft.specs.declared.line.Line.TheVariants.{Stmt as StmtLine};
 ghost use Rattle.ir_types_check.specs.Answers.{Gives, well_typed};
 ghost use Rattle.ir_types_check.specs.InOrder.{told, first_told};
 ghost use Rattle.ir_types_check.specs.Links.{choices};

@@ -7,10 +7,10 @@ use Rattle.ir_types.specs.declared.ty.Ty.TheVariants.{Void, Int, Ptr, Row}
 use Rattle.ir_types.specs.declared.func.Param.{Param}
 use Rattle.ir_types.specs.Typed.{is_value}
 use Rattle.ir_types.specs.Formed.{ids_of, IsPlain}
-use Rattle.ir_line.specs.declared.head.Head.{Head}
-use Rattle.ir_line.specs.declared.draft.Draft.{Draft}
-use Rattle.ir_line.specs.declared.draft.DraftItem.{DraftItem}
-use Rattle.ir_line.specs.declared.draft.DraftItem.TheVariants as item
+use Rattle.ir_draft.specs.declared.head.Head.{Head}
+use Rattle.ir_draft.specs.declared.draft.Draft.{Draft}
+use Rattle.ir_draft.specs.declared.draft.DraftItem.{DraftItem}
+use Rattle.ir_draft.specs.declared.draft.DraftItem.TheVariants as item
 use Rattle.ir_read.specs.Draft.{draft_of}
 use Rattle.ir_read.specs.Bodies.{numbered_from}
 use Rattle.ir_read.specs.Opaque.{joined}

@@ -16,8 +16,8 @@ use Rattle.ir_types.specs.declared.module.Item.TheVariants.{Kept, Opaque, Func a
 use Rattle.ir_types.specs.declared.module.Module.{Module}
 use Rattle.ir_types.specs.Formed.{IsFormed}
 use Rattle.ir_types.proofs.Formed.{Every, every_of_all}
-use Rattle.ir_line.specs.declared.line.Line.{Line}
-use Rattle.ir_line.specs.declared.line.Line.TheVariants as line
+use Rattle.ir_draft.specs.declared.line.Line.{Line}
+use Rattle.ir_draft.specs.declared.line.Line.TheVariants as line
 use Rattle.ir_print.specs.Names.{Named, Label, named_of, names_of, params_named, is_void, is_store, result_named, insts_named}
 use Rattle.ir_read.specs.Outlook.{outlook_of, has}
 use Rattle.ir_read.proofs.Placing.{Known}

@@ -6,7 +6,7 @@ use Rattle.ir_types.specs.declared.id.Id.{Id}
 use Rattle.ir_types.specs.declared.module.Module.{Module}
 use Rattle.ir_types.specs.Available.{IsAvailable}
 use Rattle.ir_types.specs.Formed.{IsFormedItem, ids_of, IsPlain, IsFormed}
-use Rattle.ir_line.specs.declared.draft.Draft.{Draft}
+use Rattle.ir_draft.specs.declared.draft.Draft.{Draft}
 use Rattle.ir_read.specs.Draft.{draft_of}
 use Rattle.ir_types_check.specs.declared.resolved.Resolved.{Resolved}
 use Rattle.ir_types_check.specs.Resolved.{resolved_of}

@@ -24,16 +24,16 @@ use Rattle.ir_print.specs.Literals.{ty_text}
 use Rattle.ir_print.specs.Names.{Names}
 use Rattle.ir_print.specs.Names as shown
 use Rattle.ir_print.specs.Operands.{spaced, local_text}
-use Rattle.ir_line.specs.declared.line.Line.TheVariants.{Define}
-use Rattle.ir_line.specs.declared.head.Head.{Head}
-use Rattle.ir_line.specs.Values.{named, plain_number, local_of, symbol_of}
-use Rattle.ir_line.specs.Words.{Words, is_first, is_ascii}
-use Rattle.ir_line.specs.Pieces.{SpellsTy}
-use Rattle.ir_line.specs.Keeping.{is_some, first_symbol, or_later}
+use Rattle.ir_draft.specs.declared.line.Line.TheVariants.{Define}
+use Rattle.ir_draft.specs.declared.head.Head.{Head}
+use Rattle.ir_words.specs.Values.{named, plain_number, local_of, symbol_of, is_some}
+use Rattle.ir_words.specs.Words.{Words, is_first, is_ascii}
+use Rattle.ir_forms.specs.Pieces.{SpellsTy}
+use Rattle.ir_line.specs.Keeping.{first_symbol, or_later}
 use Rattle.ir_line.specs.Headers.{span, stands, is_banned, ty_len, param, param_at, params_at, last_tokens, head_of, inner, header, ends_open}
 use Rattle.ir_line.specs.Outside.{Defined, read_outside}
 use Rattle.ir_line.proofs.OutsideLines.{outside_read}
-use Rattle.ir_line.proofs.Steps.{bytes_is}
+use Rattle.ir_forms.proofs.Steps.{bytes_is}
 use Rattle.ir_read.specs.Forms.{form_by}
 use Rattle.rf_text.specs.KeptParts.{IsKeptPart, IsAttributes, are_passed, are_attributes}
 use Rattle.rf_text.specs.Headed.{is_local_name, is_returned, is_shown, IsHeaded, header_line, shown_param, shown_params, shown_head, first_name, HeaderAgain}

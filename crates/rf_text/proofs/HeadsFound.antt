@@ -17,17 +17,16 @@ use Rattle.ir_lex.proofs.Standing.{last_end, Between, between_tokens, words_stan
 use Rattle.ir_types.specs.declared.ty.Ty.{Ty}
 use Rattle.ir_types.specs.declared.func.Param.{Param}
 use Rattle.ir_types.specs.Typed.{is_value}
-use Rattle.ir_line.specs.declared.head.Head.{Head}
-use Rattle.ir_line.specs.Values.{plain_number, unquoted, named, local_of, symbol_of}
-use Rattle.ir_line.specs.Words.{Words, one, is_first, is_ascii}
-use Rattle.ir_line.specs.Pieces.{Says}
-use Rattle.ir_line.specs.Reading.{ty_at}
-use Rattle.ir_line.specs.Keeping.{is_some}
+use Rattle.ir_draft.specs.declared.head.Head.{Head}
+use Rattle.ir_words.specs.Values.{plain_number, unquoted, named, local_of, symbol_of, is_some}
+use Rattle.ir_words.specs.Words.{Words, one, is_first, is_ascii}
+use Rattle.ir_forms.specs.Pieces.{Says}
+use Rattle.ir_words.specs.Reading.{ty_at}
 use Rattle.ir_line.specs.Headers.{last_to, span, depth_after, goes_on, attrs_len, stands, is_banned, ty_len, name_of, behind_name, param, attributed, param_at, params_within, params_at, is_callee, name_from, ret_of, head_of, inner, header}
-use Rattle.ir_line.proofs.Parts.{ty_taken}
-use Rattle.ir_line.proofs.Steps.{nothing, some_is, bind_then, cond_then, one_says, bytes_same}
-use Rattle.ir_line.specs.declared.line.Line.{Line}
-use Rattle.ir_line.specs.declared.line.Line.TheVariants as line
+use Rattle.ir_forms.proofs.Parts.{ty_taken}
+use Rattle.ir_forms.proofs.Steps.{nothing, some_is, bind_then, cond_then, one_says, bytes_same}
+use Rattle.ir_draft.specs.declared.line.Line.{Line}
+use Rattle.ir_draft.specs.declared.line.Line.TheVariants as line
 use Rattle.ir_line.specs.Outside.{Spells, NoWord, KeptLine, Defined}
 use Rattle.ir_line.proofs.OutsideLines.{outside_spelled}
 use Rattle.ir_read.specs.Forms.{form_in, form_by}

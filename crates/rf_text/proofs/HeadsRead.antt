@@ -11,14 +11,13 @@ use Rattle.ir_lex.proofs.Classes.{both}
 use Rattle.ir_types.specs.declared.ty.Ty.{Ty}
 use Rattle.ir_types.specs.declared.ty.Ty.TheVariants.{Void}
 use Rattle.ir_types.specs.declared.func.Param.{Param}
-use Rattle.ir_line.specs.Values.{width_of, named, local_of, symbol_of}
-use Rattle.ir_line.specs.Words.{Words, is_first}
-use Rattle.ir_line.specs.Reading.{ty_at}
-use Rattle.ir_line.specs.Pieces.{SpellsTy, Integer, Pointer, Vector}
-use Rattle.ir_line.specs.Keeping.{is_some}
+use Rattle.ir_words.specs.Values.{width_of, named, local_of, symbol_of, is_some}
+use Rattle.ir_words.specs.Words.{Words, is_first}
+use Rattle.ir_words.specs.Reading.{ty_at}
+use Rattle.ir_forms.specs.Pieces.{SpellsTy, Integer, Pointer, Vector}
 use Rattle.ir_line.specs.Headers.{span, depth_after, goes_on, attrs_len, is_banned, ty_len, name_of, behind_name, param, attributed, param_at, params_within, params_at, is_callee, name_from, last_tokens, whole, ret_of, head_of}
-use Rattle.ir_line.proofs.Parts.{ty_takes, NoTy, ty_not}
-use Rattle.ir_line.proofs.Steps.{nothing, apart}
+use Rattle.ir_forms.proofs.Parts.{ty_takes, NoTy, ty_not}
+use Rattle.ir_forms.proofs.Steps.{nothing, apart}
 use Rattle.rf_text.specs.KeptParts.{are_passed, are_attributes}
 use Rattle.rf_text.proofs.HeadsTypes.{is_quiet}
 

@@ -12,8 +12,8 @@ use Rattle.ir_lex.proofs.Classes.{both}
 use Rattle.ir_types.specs.declared.id.Id.{Id}
 use Rattle.ir_types.specs.declared.func.Param.{Param}
 use Rattle.ir_types.specs.declared.func.Func.{Func}
-use Rattle.ir_line.specs.Values.{plain_number}
-use Rattle.ir_line.proofs.Steps.{bytes_same}
+use Rattle.ir_words.specs.Values.{plain_number}
+use Rattle.ir_forms.proofs.Steps.{bytes_same}
 use Rattle.ir_print.specs.declared.names.Local.{Local}
 use Rattle.ir_print.specs.Names.{Named, Value, Label, params_named, blocks_named, named_of, shown, counted, locals_from, names_of, same_id, last_of, local_of}
 use Rattle.rf_text.specs.Headed.{is_local_name, is_written, is_shown, is_named}

@@ -6,14 +6,13 @@ use Rattle.ir_lex.proofs.Classes.{both}
 use Rattle.ir_types.specs.declared.ty.Ty.{Ty}
 use Rattle.ir_types.specs.declared.ty.Ty.TheVariants.{Void, Int, Ptr, Row}
 use Rattle.ir_types.specs.Typed.{is_width, is_count, is_vector, is_value}
-use Rattle.ir_line.specs.Values.{width_of, unquoted, symbol_of}
-use Rattle.ir_line.specs.Words.{Words, is_first}
-use Rattle.ir_line.specs.Pieces.{SpellsTy, Integer, Pointer, Vector}
-use Rattle.ir_line.specs.Reading.{is_row, ty_at}
-use Rattle.ir_line.specs.Keeping.{is_some}
+use Rattle.ir_words.specs.Values.{width_of, unquoted, symbol_of, is_some}
+use Rattle.ir_words.specs.Words.{Words, is_first}
+use Rattle.ir_forms.specs.Pieces.{SpellsTy, Integer, Pointer, Vector}
+use Rattle.ir_words.specs.Reading.{is_row, ty_at}
 use Rattle.ir_line.specs.Headers.{ty_len, whole}
-use Rattle.ir_line.proofs.Parts.{ty_taken}
-use Rattle.ir_line.proofs.Steps.{nothing, some_is, cond_then, first_is, apart}
+use Rattle.ir_forms.proofs.Parts.{ty_taken}
+use Rattle.ir_forms.proofs.Steps.{nothing, some_is, cond_then, first_is, apart}
 use Rattle.rf_text.specs.Headed.{is_returned}
 use Rattle.rf_text.proofs.HeadsTypes.{is_quiet}
 use Rattle.rf_text.proofs.HeadsRead.{SpellsRet, NoValue, Valued, last_words, ret_by}

@@ -11,13 +11,12 @@ use Rattle.ir_lex.proofs.Classes.{both, either}
 use Rattle.ir_types.specs.declared.ty.Ty.{Ty}
 use Rattle.ir_types.specs.declared.ty.Ty.TheVariants.{Void, Int, Ptr, Row}
 use Rattle.ir_types.specs.Typed.{is_width, is_count, is_vector, is_value}
-use Rattle.ir_line.specs.Values.{width_of, symbol_of}
-use Rattle.ir_line.specs.Words.{is_ascii}
-use Rattle.ir_line.specs.Pieces.{SpellsTy}
-use Rattle.ir_line.specs.Reading.{row_at, ty_at}
-use Rattle.ir_line.specs.Keeping.{is_some}
+use Rattle.ir_words.specs.Values.{width_of, symbol_of, is_some}
+use Rattle.ir_words.specs.Words.{is_ascii}
+use Rattle.ir_forms.specs.Pieces.{SpellsTy}
+use Rattle.ir_words.specs.Reading.{row_at, ty_at}
 use Rattle.ir_line.specs.Headers.{ty_len}
-use Rattle.ir_line.proofs.Parts.{ty_taken}
+use Rattle.ir_forms.proofs.Parts.{ty_taken}
 use Rattle.ir_print.specs.Literals.{ty_text}
 use Rattle.rf_text.specs.Headed.{is_returned}
 use Rattle.rf_text.proofs.HeadWords.{Piece}

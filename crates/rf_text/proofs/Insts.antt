@@ -14,11 +14,11 @@ use Rattle.ir_types.specs.Formed.{IsOpd}
 use Rattle.ir_lex.specs.Bytes.{is_control}
 use Rattle.ir_lex.specs.Scan.{texts}
 use Rattle.ir_lex.proofs.Again.{stops, texts_space}
-use Rattle.ir_line.specs.declared.line.Line.{Line}
-use Rattle.ir_line.specs.Words.{Words}
-use Rattle.ir_line.specs.Values.{local_of as local_word, opcode_word, act_word}
-use Rattle.ir_line.specs.Pieces.{Value, Name, Code, ActCode, Says}
-use Rattle.ir_line.specs.Forms.{Form, Slot, slot, slots, word, line_of}
+use Rattle.ir_draft.specs.declared.line.Line.{Line}
+use Rattle.ir_words.specs.Words.{Words}
+use Rattle.ir_words.specs.Values.{local_of as local_word, opcode_word, act_word}
+use Rattle.ir_forms.specs.Pieces.{Value, Name, Code, ActCode, Says}
+use Rattle.ir_forms.specs.Forms.{Form, Slot, slot, slots, word, line_of}
 use Rattle.ir_print.specs.declared.names.Local.{Local}
 use Rattle.ir_print.specs.Names.{Names, local_of, is_store, is_void}
 use Rattle.ir_print.specs.Instructions.{inst_text, act_text, result_text}

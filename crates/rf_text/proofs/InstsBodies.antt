@@ -5,10 +5,10 @@ use Rattle.std.specs.List.{All, slice_get}
 use Rattle.ir_types.specs.declared.inst.Inst.{Inst}
 use Rattle.ir_types.specs.declared.func.Block.{Block}
 use Rattle.ir_lex.specs.Scan.{fault_of}
-use Rattle.ir_line.specs.declared.line.Line.{Line}
-use Rattle.ir_line.specs.declared.line.Line.TheVariants.{Close}
-use Rattle.ir_line.specs.declared.line.Line.TheVariants as line
-use Rattle.ir_line.proofs.Steps.{nothing}
+use Rattle.ir_draft.specs.declared.line.Line.{Line}
+use Rattle.ir_draft.specs.declared.line.Line.TheVariants.{Close}
+use Rattle.ir_draft.specs.declared.line.Line.TheVariants as line
+use Rattle.ir_forms.proofs.Steps.{nothing}
 use Rattle.ir_print.specs.Names.{Names}
 use Rattle.ir_print.specs.Instructions.{insts_text}
 use Rattle.ir_print.specs.Text.{label_line, next_block, more_blocks, blocks_text}

@@ -12,9 +12,9 @@ use Rattle.ir_types.specs.declared.op.Op.TheVariants as ops
 use Rattle.ir_types.specs.Typed.{is_value}
 use Rattle.ir_types.specs.Formed.{IsOpd}
 use Rattle.ir_lex.specs.Bytes.{is_word_byte, begins_name}
-use Rattle.ir_line.specs.declared.written.Arg.{Arg}
-use Rattle.ir_line.specs.Forms as forms
-use Rattle.ir_line.specs.Forms.{Slot, slot, slots, arg}
+use Rattle.ir_draft.specs.declared.written.Arg.{Arg}
+use Rattle.ir_forms.specs.Forms as forms
+use Rattle.ir_forms.specs.Forms.{Slot, slot, slots, arg}
 use Rattle.ir_print.specs.declared.names.Local.{Local}
 use Rattle.ir_print.specs.Names.{Names, local_of, is_void}
 use Rattle.ir_print.specs.Operands.{label_text}

@@ -3,12 +3,12 @@ use Rattle.std.proofs.Common.{◌≡◌, ℕ, true, List, [], ◌∷◌, ◌++�
 use Rattle.ir_lex.specs.Bytes.{is_word_byte, begins_name, is_digit, is_sigil, is_mark, is_blank, is_control}
 use Rattle.ir_lex.specs.Scan.{texts, cut, more_len}
 use Rattle.ir_lex.specs.Words.{word}
-use Rattle.ir_line.specs.declared.line.Line.{Line}
-use Rattle.ir_line.specs.declared.line.Line.TheVariants.{Empty, Close, Label}
-use Rattle.ir_line.specs.Words.{Words}
+use Rattle.ir_draft.specs.declared.line.Line.{Line}
+use Rattle.ir_draft.specs.declared.line.Line.TheVariants.{Empty, Close, Label}
+use Rattle.ir_words.specs.Words.{Words}
 use Rattle.ir_line.specs.Body.{read_body}
-use Rattle.ir_line.specs.Forms as forms
-use Rattle.ir_line.specs.Forms.{slot, slots}
+use Rattle.ir_forms.specs.Forms as forms
+use Rattle.ir_forms.specs.Forms.{slot, slots}
 use Rattle.ir_read.specs.Forms.{form_in, form_by}
 use Rattle.rf_text.specs.Shown.{IsLocalName}
 use Rattle.rf_text.specs.Printed.{Printed}

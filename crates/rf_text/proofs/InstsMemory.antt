@@ -10,8 +10,8 @@ use Rattle.ir_types.specs.declared.op.Op.TheVariants as ops
 use Rattle.ir_types.specs.declared.inst.Inst.{Inst}
 use Rattle.ir_types.specs.Typed.{is_stored, IsAlign, IsAlignIfAny, IsElem}
 use Rattle.ir_lex.specs.Bytes.{is_word_byte, begins_name}
-use Rattle.ir_line.specs.Forms as forms
-use Rattle.ir_line.specs.Forms.{slots}
+use Rattle.ir_forms.specs.Forms as forms
+use Rattle.ir_forms.specs.Forms.{slots}
 use Rattle.ir_print.specs.declared.names.Local.{Local}
 use Rattle.ir_print.specs.Names.{Names, local_of, is_void}
 use Rattle.ir_print.specs.Instructions.{act_text, result_text}

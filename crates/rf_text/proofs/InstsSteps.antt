@@ -12,9 +12,9 @@ use Rattle.ir_types.specs.Typed.{is_width, IsElem, IsStep, HasTwoIndices}
 use Rattle.ir_lex.specs.Bytes.{is_word_byte, begins_name, is_control}
 use Rattle.ir_lex.specs.Scan.{texts}
 use Rattle.ir_lex.proofs.Again.{stops}
-use Rattle.ir_line.specs.Kinds.{is_integer, bits_of}
-use Rattle.ir_line.specs.Forms as forms
-use Rattle.ir_line.specs.Forms.{slots}
+use Rattle.ir_words.specs.Kinds.{is_integer, bits_of}
+use Rattle.ir_forms.specs.Forms as forms
+use Rattle.ir_forms.specs.Forms.{slots}
 use Rattle.ir_print.specs.declared.names.Local.{Local}
 use Rattle.ir_print.specs.Names.{Names, local_of, is_void}
 use Rattle.ir_print.specs.Literals.{elem_text}

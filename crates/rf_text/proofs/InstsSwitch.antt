@@ -13,11 +13,11 @@ use Rattle.ir_types.specs.declared.inst.Inst.{Inst}
 use Rattle.ir_types.specs.Typed.{is_width, IsCase}
 use Rattle.ir_lex.specs.Bytes.{is_word_byte, begins_name, is_control}
 use Rattle.ir_lex.specs.Scan.{texts}
-use Rattle.ir_line.specs.declared.line.Line.TheVariants.{Stmt as StmtLine, CasesEnd}
-use Rattle.ir_line.specs.Values.{bits_number}
-use Rattle.ir_line.specs.Pieces.{Says, Case}
-use Rattle.ir_line.specs.Forms as forms
-use Rattle.ir_line.specs.Forms.{Slot, slot, slots, word, arg}
+use Rattle.ir_draft.specs.declared.line.Line.TheVariants.{Stmt as StmtLine, CasesEnd}
+use Rattle.ir_words.specs.Values.{bits_number}
+use Rattle.ir_forms.specs.Pieces.{Says, Case}
+use Rattle.ir_forms.specs.Forms as forms
+use Rattle.ir_forms.specs.Forms.{Slot, slot, slots, word, arg}
 use Rattle.ir_print.specs.Names.{Names}
 use Rattle.ir_print.specs.Operands.{opd_ty, typed_text, label_text}
 use Rattle.ir_print.specs.Instructions.{inst_text, case_text, cases_text, switch_width}

@@ -19,10 +19,10 @@ use Rattle.ir_lex.specs.Bytes.{is_word_byte, begins_name}
 use Rattle.ir_lex.specs.Scan.{texts}
 use Rattle.ir_lex.proofs.Again.{stops}
 use Rattle.ir_lex.proofs.Classes.{clash}
-use Rattle.ir_line.specs.Kinds.{is_integer, is_vector as is_row_ty, is_cast, bits_of, fits}
-use Rattle.ir_line.specs.Pieces.{Comparison}
-use Rattle.ir_line.specs.Forms as forms
-use Rattle.ir_line.specs.Forms.{slots, truth_of, cast_kind}
+use Rattle.ir_words.specs.Kinds.{is_integer, is_vector as is_row_ty, is_cast, bits_of, fits}
+use Rattle.ir_forms.specs.Pieces.{Comparison}
+use Rattle.ir_forms.specs.Forms as forms
+use Rattle.ir_forms.specs.Forms.{slots, truth_of, cast_kind}
 use Rattle.ir_print.specs.declared.names.Local.{Local}
 use Rattle.ir_print.specs.Names.{Names, local_of, is_void}
 use Rattle.ir_print.specs.Literals.{ty_text}

@@ -9,9 +9,9 @@ use Rattle.ir_types.specs.declared.op.Op.TheVariants as ops
 use Rattle.ir_types.specs.Typed.{is_value, is_vector, is_width, with_width, IsEntry}
 use Rattle.ir_lex.specs.Bytes.{is_word_byte, begins_name}
 use Rattle.ir_lex.proofs.Classes.{clash}
-use Rattle.ir_line.specs.Kinds.{is_same, is_chosen, bits_of}
-use Rattle.ir_line.specs.Forms as forms
-use Rattle.ir_line.specs.Forms.{slots}
+use Rattle.ir_words.specs.Kinds.{is_same, is_chosen, bits_of}
+use Rattle.ir_forms.specs.Forms as forms
+use Rattle.ir_forms.specs.Forms.{slots}
 use Rattle.ir_print.specs.declared.names.Local.{Local}
 use Rattle.ir_print.specs.Names.{Names, local_of, is_void}
 use Rattle.ir_print.specs.Operands.{typed_text}

@@ -9,9 +9,9 @@ use Rattle.ir_lex.specs.declared.list.Token.{Token}
 use Rattle.ir_lex.proofs.Classes.{both}
 use Rattle.ir_lex.proofs.Laws.{words_of_line}
 use Rattle.ir_lex.proofs.Standing.{Shorter, without_spaces, no_controls}
-use Rattle.ir_line.specs.declared.line.Line.{Line}
-use Rattle.ir_line.specs.declared.line.Line.TheVariants as line
-use Rattle.ir_line.specs.declared.kept.Kept.{Kept}
+use Rattle.ir_draft.specs.declared.line.Line.{Line}
+use Rattle.ir_draft.specs.declared.line.Line.TheVariants as line
+use Rattle.ir_draft.specs.declared.kept.Kept.{Kept}
 use Rattle.ir_line.specs.Keeping.{trimmed, kept_of}
 use Rattle.ir_line.specs.Outside.{Spells, KeptLine}
 use Rattle.ir_line.proofs.OutsideLines.{outside_spelled, outside_read}

@@ -1,6 +1,6 @@
 -- Scopes that have each name once: a name that comes next can be defined, and whatever is defined is found.
 use Rattle.std.proofs.Common.{◌≡◌, ℕ, Bool, true, false, cond, Ok, None, Some, List, [], ◌∷◌, ◌++◌, bytes_eq, refl, sym, ap, ◌∙◌, append_assoc}
-use Rattle.ir_line.proofs.Steps.{bytes_is, bytes_same}
+use Rattle.ir_forms.proofs.Steps.{bytes_is, bytes_same}
 use Rattle.ir_types_check.specs.Scope.{Scope, define, meaning}
 
 -- bytes that are not the same, in either order

@@ -10,7 +10,7 @@ use Rattle.std.specs.List.{list_all}
 use Rattle.ir_lex.specs.Bytes.{begins_name, is_word_byte, is_digit}
 use Rattle.ir_lex.specs.Tokens.{is_name}
 use Rattle.ir_lex.proofs.Classes.{both, digit_no_name}
-use Rattle.ir_line.proofs.Steps.{bytes_is}
+use Rattle.ir_forms.proofs.Steps.{bytes_is}
 use Rattle.ir_print.specs.Names.{shown, counted}
 use Rattle.ir_types_check.specs.Outline.{is_number, written_name, after_name}
 use Rattle.ir_types.specs.Formed.{is_plain}

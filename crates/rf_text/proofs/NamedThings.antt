@@ -11,7 +11,7 @@ use Rattle.ir_types.specs.declared.func.Param.{Param}
 use Rattle.ir_types.specs.declared.func.Block.{Block}
 use Rattle.ir_types.specs.declared.func.Func.{Func}
 use Rattle.ir_lex.specs.Tokens.{is_name}
-use Rattle.ir_line.proofs.Steps.{bytes_is}
+use Rattle.ir_forms.proofs.Steps.{bytes_is}
 use Rattle.ir_print.specs.Names.{Named, Value, Label, named_of, params_named, blocks_named, insts_named, result_named, shown, counted, is_store, is_void}
 use Rattle.ir_types_check.specs.Scope.{Scope, meaning}
 use Rattle.ir_types_check.proofs.Handed.{LocalMeaning, value_at, block_at}

@@ -5,7 +5,7 @@ use Rattle.std.proofs.lemmas.List.Elements.{All-head, All-tail}
 use Rattle.std.specs.List.{All, AllPairs, slice_get}
 use Rattle.ir_types.specs.declared.module.Item.{Item}
 use Rattle.ir_types.specs.declared.module.Item.TheVariants.{Kept, Opaque, Func as FuncItem}
-use Rattle.ir_line.proofs.Steps.{bytes_is}
+use Rattle.ir_forms.proofs.Steps.{bytes_is}
 use Rattle.ir_print.specs.Names.{names_of}
 use Rattle.ir_types_check.specs.declared.refusal.ResolveRefusal.{ResolveRefusal}
 use Rattle.ir_types_check.specs.Scope.{Scope, meaning, of_module}

@@ -6,9 +6,9 @@ use Rattle.std.specs.List.{All, list_all}
 use Rattle.std.proofs.lemmas.List.Elements.{All-nil, All-cons, All-head, All-tail}
 use Rattle.ir_lex.specs.Scan.{cut, fault_of}
 use Rattle.ir_lex.proofs.Classes.{both, neither}
-use Rattle.ir_line.specs.declared.head.Head.{Head}
-use Rattle.ir_line.specs.declared.line.Line.{Line}
-use Rattle.ir_line.specs.declared.line.Line.TheVariants as line
+use Rattle.ir_draft.specs.declared.head.Head.{Head}
+use Rattle.ir_draft.specs.declared.line.Line.{Line}
+use Rattle.ir_draft.specs.declared.line.Line.TheVariants as line
 use Rattle.ir_line.specs.Body.{read_body}
 use Rattle.ir_read.specs.Forms.{form_in, form_by, inside_after, forms_from, forms_of}
 use Rattle.ir_read.specs.declared.refusal.ReadRefusal.{ReadRefusal}

@@ -4,9 +4,9 @@ use Rattle.std.specs.List.{list_all}
 use Rattle.ir_lex.specs.Bytes.{begins_name, is_word_byte, is_sigil, is_mark, is_blank, is_control}
 use Rattle.ir_lex.specs.Scan.{texts, more_len}
 use Rattle.ir_lex.proofs.Again.{stops, texts_space}
-use Rattle.ir_line.specs.Words.{Words}
-use Rattle.ir_line.specs.Pieces.{Piece, Value, Takes, Led}
-use Rattle.ir_line.specs.Forms.{Slot, slot, word}
+use Rattle.ir_words.specs.Words.{Words}
+use Rattle.ir_forms.specs.Pieces.{Piece, Value, Takes, Led}
+use Rattle.ir_forms.specs.Forms.{Slot, slot, word}
 use Rattle.rf_text.proofs.Words.{is_plain, plain_append, Told, is_run, run_texts}
 use Rattle.rf_text.proofs.WordsNames.{run_is_plain}
 

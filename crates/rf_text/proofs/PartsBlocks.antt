@@ -12,11 +12,11 @@ use Rattle.ir_types.specs.Typed.{IsEntry}
 use Rattle.ir_lex.specs.Bytes.{is_control, is_word_byte, begins_name}
 use Rattle.ir_lex.specs.Scan.{texts}
 use Rattle.ir_lex.proofs.Again.{texts_space}
-use Rattle.ir_line.specs.Words.{Words}
-use Rattle.ir_line.specs.Values.{local_of}
-use Rattle.ir_line.specs.Reading.{is_entry, are_entries}
-use Rattle.ir_line.specs.Pieces.{Value, Takes, Pairs, Mask, Says, Led, SpellsOperand, SpellsPair, Pair, SpellsPairs, LastPair, MorePairs, Entries, SpellsTy, SpellsLanes}
-use Rattle.ir_line.specs.Forms.{arg, slot}
+use Rattle.ir_words.specs.Words.{Words}
+use Rattle.ir_words.specs.Values.{local_of}
+use Rattle.ir_forms.specs.Operands.{is_entry, are_entries}
+use Rattle.ir_forms.specs.Pieces.{Value, Takes, Pairs, Mask, Says, Led, SpellsOperand, SpellsPair, Pair, SpellsPairs, LastPair, MorePairs, Entries, SpellsTy, SpellsLanes}
+use Rattle.ir_forms.specs.Forms.{arg, slot}
 use Rattle.ir_print.specs.Literals.{vector_text}
 use Rattle.ir_print.specs.Names.{Names}
 use Rattle.ir_print.specs.Operands.{opd_text, block_text, label_text}

@@ -15,13 +15,13 @@ use Rattle.ir_lex.specs.Bytes.{is_control, is_word_byte, begins_name}
 use Rattle.ir_lex.specs.Scan.{texts}
 use Rattle.ir_lex.proofs.Again.{stops, texts_space}
 use Rattle.ir_lex.proofs.Classes.{clash}
-use Rattle.ir_line.specs.Words.{Words}
-use Rattle.ir_line.specs.Values.{width_of}
-use Rattle.ir_line.specs.Reading.{allows, has, is_distinct}
-use Rattle.ir_line.specs.Pieces.{Takes, Flags, SpellsFlags, SpellsTy}
-use Rattle.ir_line.specs.Pieces as pieces
-use Rattle.ir_line.specs.Forms.{Slot, slot, flags_of, bin_flags, cast_flags}
-use Rattle.ir_line.proofs.Steps.{apart}
+use Rattle.ir_words.specs.Words.{Words}
+use Rattle.ir_words.specs.Values.{width_of}
+use Rattle.ir_words.specs.Reading.{allows, has, is_distinct}
+use Rattle.ir_forms.specs.Pieces.{Takes, Flags, SpellsFlags, SpellsTy}
+use Rattle.ir_forms.specs.Pieces as pieces
+use Rattle.ir_forms.specs.Forms.{Slot, slot, flags_of, bin_flags, cast_flags}
+use Rattle.ir_forms.proofs.Steps.{apart}
 use Rattle.ir_print.specs.Instructions.{flag_text, flags_text}
 use Rattle.rf_text.proofs.Parts.{space_stops}
 use Rattle.rf_text.proofs.Words.{Taken, is_plain, plain_append, Told, is_run, run_texts}

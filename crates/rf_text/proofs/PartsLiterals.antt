@@ -15,10 +15,10 @@ use Rattle.ir_lex.specs.Bytes.{begins_name, is_word_byte, is_control}
 use Rattle.ir_lex.specs.Scan.{texts}
 use Rattle.ir_lex.proofs.Again.{stops, texts_space}
 use Rattle.ir_lex.proofs.Classes.{both, clash}
-use Rattle.ir_line.specs.Words.{Words}
-use Rattle.ir_line.specs.Values.{decimal_of, bits_number, lane_of}
-use Rattle.ir_line.specs.Pieces.{Lane, SpellsList, LastLane, MoreLanes, SpellsRow, Poison, Zero, Listed, SpellsLanes, Scalar, NoPointer, Lanes}
-use Rattle.ir_line.proofs.Steps.{nothing, apart}
+use Rattle.ir_words.specs.Words.{Words}
+use Rattle.ir_words.specs.Values.{decimal_of, bits_number, lane_of}
+use Rattle.ir_forms.specs.Pieces.{Lane, SpellsList, LastLane, MoreLanes, SpellsRow, Poison, Zero, Listed, SpellsLanes, Scalar, NoPointer, Lanes}
+use Rattle.ir_forms.proofs.Steps.{nothing, apart}
 use Rattle.ir_print.specs.Literals.{more_lanes_text, lanes_text, vector_text, lits_text, is_poison, is_zero}
 use Rattle.rf_text.proofs.Words.{is_plain, plain_append, run_plain, is_run, run_texts}
 use Rattle.rf_text.proofs.WordsNames.{run_is_plain}

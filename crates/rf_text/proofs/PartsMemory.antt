@@ -15,12 +15,12 @@ use Rattle.ir_lex.specs.Bytes.{is_control, is_word_byte, begins_name}
 use Rattle.ir_lex.specs.Scan.{texts}
 use Rattle.ir_lex.proofs.Again.{stops, texts_space}
 use Rattle.ir_lex.proofs.Classes.{both, clash}
-use Rattle.ir_line.specs.Kinds.{fits, is_integer, is_vector, bits_of}
-use Rattle.ir_line.specs.Words.{Words}
-use Rattle.ir_line.specs.Values.{align_of, is_align}
-use Rattle.ir_line.specs.Reading.{length_of, item_of}
-use Rattle.ir_line.specs.Pieces.{Aligned, SpellsAligned, Absent, Given, SpellsElem, Single, Items}
-use Rattle.ir_line.specs.Forms.{slot}
+use Rattle.ir_words.specs.Kinds.{fits, is_integer, is_vector, bits_of}
+use Rattle.ir_words.specs.Words.{Words}
+use Rattle.ir_words.specs.Values.{align_of, is_align}
+use Rattle.ir_words.specs.Reading.{length_of, item_of}
+use Rattle.ir_forms.specs.Pieces.{Aligned, SpellsAligned, Absent, Given, SpellsElem, Single, Items}
+use Rattle.ir_forms.specs.Forms.{slot}
 use Rattle.ir_print.specs.Literals.{ty_text, elem_text}
 use Rattle.ir_print.specs.Instructions.{align_text, given_align}
 use Rattle.rf_text.proofs.Words.{Taken, plain_append, run_plain, Told, is_run, run_texts}

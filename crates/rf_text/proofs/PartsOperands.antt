@@ -16,11 +16,11 @@ use Rattle.ir_lex.specs.Bytes.{is_control, is_word_byte, begins_name}
 use Rattle.ir_lex.specs.Tokens.{is_name}
 use Rattle.ir_lex.specs.Scan.{texts}
 use Rattle.ir_lex.proofs.Again.{stops, texts_space}
-use Rattle.ir_line.specs.declared.written.Written.TheVariants as opds
-use Rattle.ir_line.specs.Kinds.{fits}
-use Rattle.ir_line.specs.Pieces.{SpellsOperand, Named as NamedOpd, Global, Literal as LiteralOpd, SpellsTyped, Bare, Other, Typed, Also}
-use Rattle.ir_line.specs.Forms.{Slot, slot, arg}
-use Rattle.ir_line.proofs.Steps.{nothing, some_is}
+use Rattle.ir_draft.specs.declared.written.Written.TheVariants as opds
+use Rattle.ir_words.specs.Kinds.{fits}
+use Rattle.ir_forms.specs.Pieces.{SpellsOperand, Named as NamedOpd, Global, Literal as LiteralOpd, SpellsTyped, Bare, Other, Typed, Also}
+use Rattle.ir_forms.specs.Forms.{Slot, slot, arg}
+use Rattle.ir_forms.proofs.Steps.{nothing, some_is}
 use Rattle.ir_print.specs.declared.names.Local.{Local}
 use Rattle.ir_print.specs.Literals.{ty_text}
 use Rattle.ir_print.specs.Names.{Names, local_of, last_of, same_id}

@@ -10,11 +10,11 @@ use Rattle.ir_lex.specs.Bytes.{begins_name, is_word_byte, is_control}
 use Rattle.ir_lex.specs.Scan.{texts}
 use Rattle.ir_lex.proofs.Again.{texts_space}
 use Rattle.ir_lex.proofs.Classes.{both, either, clash}
-use Rattle.ir_line.specs.Kinds.{fits}
-use Rattle.ir_line.specs.Words.{Words}
-use Rattle.ir_line.specs.Values.{width_of}
-use Rattle.ir_line.specs.Reading.{is_row}
-use Rattle.ir_line.specs.Pieces.{SpellsTy, SpellsKind, Integer, Pointer, Vector}
+use Rattle.ir_words.specs.Kinds.{fits}
+use Rattle.ir_words.specs.Words.{Words}
+use Rattle.ir_words.specs.Values.{width_of}
+use Rattle.ir_words.specs.Reading.{is_row}
+use Rattle.ir_forms.specs.Pieces.{SpellsTy, SpellsKind, Integer, Pointer, Vector}
 use Rattle.ir_print.specs.Literals.{ty_text}
 use Rattle.rf_text.proofs.Words.{Taken, is_plain, plain_append, run_plain, is_run, run_texts}
 use Rattle.rf_text.proofs.WordsNumbers.{decimal_read, decimal_run}

@@ -12,8 +12,8 @@ use Rattle.ir_types.specs.declared.op.Op.TheVariants.{Alloca, Phi, Switch, Call}
 use Rattle.ir_types.specs.declared.inst.Inst.{Inst}
 use Rattle.ir_types.specs.declared.func.Param.{Param}
 use Rattle.ir_types.specs.Formed.{is_phi, is_alloca, is_terminator, ends_from, PhisFirst}
-use Rattle.ir_line.specs.declared.line.Line.{Line}
-use Rattle.ir_line.specs.declared.line.Line.TheVariants as form
+use Rattle.ir_draft.specs.declared.line.Line.{Line}
+use Rattle.ir_draft.specs.declared.line.Line.TheVariants as form
 use Rattle.ir_print.specs.Names.{Names, Named, Value, result_named, insts_named, params_named, shown, counted, local_of, is_store, is_void}
 use Rattle.ir_read.specs.declared.refusal.ReadRefusal.{ReadRefusal}
 use Rattle.ir_read.specs.Answers.{◌>>=◌}

@@ -18,8 +18,8 @@ use Rattle.ir_types.specs.declared.module.Item.{Item}
 use Rattle.ir_types.specs.declared.module.Item.TheVariants.{Kept, Opaque, Func as FuncItem}
 use Rattle.ir_types.specs.declared.module.Module.{Module}
 use Rattle.ir_types.specs.Formed.{IsFormed, IsFormedItem, item_ids, ids_of_items}
-use Rattle.ir_line.specs.declared.line.Line.{Line}
-use Rattle.ir_line.specs.declared.line.Line.TheVariants as line
+use Rattle.ir_draft.specs.declared.line.Line.{Line}
+use Rattle.ir_draft.specs.declared.line.Line.TheVariants as line
 use Rattle.ir_line.specs.Body.{Spells as SpellsInside}
 use Rattle.ir_line.specs.Outside.{Spells as SpellsOutside}
 use Rattle.ir_line.proofs.BodyLines.{body_spelled}

@@ -1,9 +1,9 @@
 -- What lines say for the whole text: its kept lines and its headers in order. Texts whose lines say the same have the same outlook.
 use Rattle.std.proofs.Common.{◌≡◌, ℕ, Bool, true, false, ◌||◌, List, [], ◌∷◌, ◌++◌, map, Option, Some, None, refl, sym, ◌∙◌, ap, subst}
 use Rattle.std.specs.List.{AllZip}
-use Rattle.ir_line.specs.declared.head.Head.{Head}
-use Rattle.ir_line.specs.declared.line.Line.{Line}
-use Rattle.ir_line.specs.declared.line.Line.TheVariants as line
+use Rattle.ir_draft.specs.declared.head.Head.{Head}
+use Rattle.ir_draft.specs.declared.line.Line.{Line}
+use Rattle.ir_draft.specs.declared.line.Line.TheVariants as line
 use Rattle.ir_read.specs.Outlook.{nothing_seen, with_line, seen_from, outlook_of}
 use Rattle.ir_read.proofs.Placing.{Known}
 

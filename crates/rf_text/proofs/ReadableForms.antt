@@ -9,8 +9,8 @@ use Rattle.ir_types.specs.declared.op.Op.TheVariants.{Switch}
 use Rattle.ir_types.specs.declared.inst.Inst.{Inst}
 use Rattle.ir_types.specs.declared.func.Block.{Block}
 use Rattle.ir_types.specs.declared.func.Func.{Func}
-use Rattle.ir_line.specs.declared.line.Line.{Line}
-use Rattle.ir_line.specs.declared.line.Line.TheVariants as line
+use Rattle.ir_draft.specs.declared.line.Line.{Line}
+use Rattle.ir_draft.specs.declared.line.Line.TheVariants as line
 use Rattle.ir_print.specs.Names.{Names, names_of}
 use Rattle.rf_text.proofs.Publics.{publics, publics_append, passed}
 use Rattle.rf_text.specs.Written.{first_ty, cases_of, more_forms}

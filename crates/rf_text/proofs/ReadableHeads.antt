@@ -7,17 +7,17 @@ use Rattle.ir_lex.specs.Scan.{cut, texts, fault_of}
 use Rattle.ir_lex.specs.Words.{word, words}
 use Rattle.ir_lex.specs.declared.list.Token.{Token}
 use Rattle.ir_types.specs.declared.ty.Ty.{Ty}
-use Rattle.ir_line.specs.declared.head.Head.{Head}
-use Rattle.ir_line.specs.declared.line.Line.{Line}
-use Rattle.ir_line.specs.declared.line.Line.TheVariants as line
-use Rattle.ir_line.specs.Values.{symbol_of}
-use Rattle.ir_line.specs.Words.{Words, one, is_first, is_ascii}
-use Rattle.ir_line.specs.Pieces.{Says}
+use Rattle.ir_draft.specs.declared.head.Head.{Head}
+use Rattle.ir_draft.specs.declared.line.Line.{Line}
+use Rattle.ir_draft.specs.declared.line.Line.TheVariants as line
+use Rattle.ir_words.specs.Values.{symbol_of}
+use Rattle.ir_words.specs.Words.{Words, one, is_first, is_ascii}
+use Rattle.ir_forms.specs.Pieces.{Says}
 use Rattle.ir_line.specs.Keeping.{first_symbol, or_later}
 use Rattle.ir_line.specs.Headers.{span, ty_len, name_from, ret_of, params_at, head_of, inner, header}
 use Rattle.ir_line.specs.Outside.{Spells, NoWord, KeptLine, Defined}
 use Rattle.ir_line.proofs.OutsideLines.{outside_spelled}
-use Rattle.ir_line.proofs.Steps.{nothing, some_is, bind_then, cond_then, one_says}
+use Rattle.ir_forms.proofs.Steps.{nothing, some_is, bind_then, cond_then, one_says}
 use Rattle.ir_read.specs.Forms.{form_in, form_by}
 use Rattle.rf_text.proofs.Kept.{Formed, formed}
 use Rattle.rf_text.proofs.HeadsRead.{words_append, ret_is}

@@ -14,23 +14,23 @@ use Rattle.ir_types.specs.declared.func.Func.{Func}
 use Rattle.ir_types.specs.declared.module.Item.{Item}
 use Rattle.ir_types.specs.declared.module.Item.TheVariants as items
 use Rattle.ir_types.specs.Formed as formed
-use Rattle.ir_line.specs.declared.head.Head.{Head}
-use Rattle.ir_line.specs.declared.kept.Kept.{Kept}
-use Rattle.ir_line.specs.declared.stmt.Stmt.{Stmt}
-use Rattle.ir_line.specs.declared.line.Line.{Line}
-use Rattle.ir_line.specs.declared.line.Line.TheVariants as line
-use Rattle.ir_line.specs.declared.written.Written.{Written}
-use Rattle.ir_line.specs.declared.written.Written.TheVariants as written'
-use Rattle.ir_line.specs.declared.written.Arg.{Arg}
-use Rattle.ir_line.specs.declared.draft.Numbered.{Numbered}
-use Rattle.ir_line.specs.declared.draft.DraftItem.{DraftItem}
-use Rattle.ir_line.specs.declared.draft.DraftItem.TheVariants as item
-use Rattle.ir_line.specs.Values.{symbol_of}
-use Rattle.ir_line.specs.Words.{Words, is_first}
+use Rattle.ir_draft.specs.declared.head.Head.{Head}
+use Rattle.ir_draft.specs.declared.kept.Kept.{Kept}
+use Rattle.ir_draft.specs.declared.stmt.Stmt.{Stmt}
+use Rattle.ir_draft.specs.declared.line.Line.{Line}
+use Rattle.ir_draft.specs.declared.line.Line.TheVariants as line
+use Rattle.ir_draft.specs.declared.written.Written.{Written}
+use Rattle.ir_draft.specs.declared.written.Written.TheVariants as written'
+use Rattle.ir_draft.specs.declared.written.Arg.{Arg}
+use Rattle.ir_draft.specs.declared.draft.Numbered.{Numbered}
+use Rattle.ir_draft.specs.declared.draft.DraftItem.{DraftItem}
+use Rattle.ir_draft.specs.declared.draft.DraftItem.TheVariants as item
+use Rattle.ir_words.specs.Values.{symbol_of}
+use Rattle.ir_words.specs.Words.{Words, is_first}
 use Rattle.ir_line.specs.Keeping.{defined}
 use Rattle.ir_line.specs.Sound.{IsSound, IsCallOp, IsCallLine}
-use Rattle.ir_line.proofs.PoisonPointers.{IsPoison, PoisonArg}
-use Rattle.ir_line.proofs.Steps.{nothing}
+use Rattle.ir_forms.proofs.PoisonPointers.{IsPoison, PoisonArg}
+use Rattle.ir_forms.proofs.Steps.{nothing}
 use Rattle.ir_print.specs.Names.{is_store, is_void}
 use Rattle.ir_read.specs.Forms.{form_in}
 use Rattle.ir_read.specs.Function.{is_barred, any_barred}

@@ -17,20 +17,20 @@ use Rattle.ir_types.specs.declared.ty.Ty.TheVariants.{Void, Int, Ptr, Row}
 use Rattle.ir_types.specs.declared.op.Op.{Op}
 use Rattle.ir_types.specs.declared.op.Op.TheVariants as ops
 use Rattle.ir_types.specs.Typed.{is_number, is_value, is_vector, is_stored, with_width}
-use Rattle.ir_line.specs.declared.written.Arg.{Arg}
-use Rattle.ir_line.specs.declared.stmt.Stmt.{Stmt}
-use Rattle.ir_line.specs.declared.line.Line.{Line}
-use Rattle.ir_line.specs.declared.line.Line.TheVariants as lines
-use Rattle.ir_line.specs.Values.{local_of, label_of, plain_number}
-use Rattle.ir_line.specs.Words.{Words}
-use Rattle.ir_line.specs.Pieces.{Says}
-use Rattle.ir_line.specs.Forms.{Form, Label, Choice, ChoicesEnd, Binary, Compare, Convert, Select, Extract, Insert, Shuffle, Step, StepInto, Load, Allocate, Phi, Store, Return, ReturnValue, Jump, Branch, Switch, Unreachable, slots, Spell, line_of, arg}
+use Rattle.ir_draft.specs.declared.written.Arg.{Arg}
+use Rattle.ir_draft.specs.declared.stmt.Stmt.{Stmt}
+use Rattle.ir_draft.specs.declared.line.Line.{Line}
+use Rattle.ir_draft.specs.declared.line.Line.TheVariants as lines
+use Rattle.ir_words.specs.Values.{local_of, label_of, plain_number}
+use Rattle.ir_words.specs.Words.{Words}
+use Rattle.ir_forms.specs.Pieces.{Says}
+use Rattle.ir_forms.specs.Forms.{Form, Label, Choice, ChoicesEnd, Binary, Compare, Convert, Select, Extract, Insert, Shuffle, Step, StepInto, Load, Allocate, Phi, Store, Return, ReturnValue, Jump, Branch, Switch, Unreachable, slots, Spell, line_of, arg}
 use Rattle.ir_line.specs.Body.{Spells, NoWord, Brace, Formed, Called, attachment_at, unattached}
 use Rattle.ir_line.specs.Sound.{IsSoundOp, IsSound, IsCallLine, IsCallOp, IsSoundUncalled, written_types}
 use Rattle.ir_line.proofs.BodyLines.{body_spelled}
-use Rattle.ir_line.proofs.PoisonPointers.{PoisonArg, operand, other, pairs_poison}
+use Rattle.ir_forms.proofs.PoisonPointers.{PoisonArg, operand, other, pairs_poison}
 use Rattle.ir_line.proofs.SoundLines.{call_is, sound_line}
-use Rattle.ir_line.proofs.Steps.{nothing, some_is}
+use Rattle.ir_forms.proofs.Steps.{nothing, some_is}
 use Rattle.ir_print.specs.Names.{is_store, is_void}
 use Rattle.ir_read.specs.Forms.{form_in, form_by}
 use Rattle.rf_text.specs.Headed.{is_local_name, is_written}

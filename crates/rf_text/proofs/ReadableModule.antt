@@ -16,13 +16,13 @@ use Rattle.ir_types.specs.declared.module.Item.{Item}
 use Rattle.ir_types.specs.declared.module.Item.TheVariants as items
 use Rattle.ir_types.specs.declared.module.Module.{Module}
 use Rattle.ir_types.specs.Formed.{ids_of}
-use Rattle.ir_line.specs.declared.head.Head.{Head}
-use Rattle.ir_line.specs.declared.line.Line.{Line}
-use Rattle.ir_line.specs.declared.line.Line.TheVariants as line
-use Rattle.ir_line.specs.declared.written.Written.{Written}
-use Rattle.ir_line.specs.declared.written.Written.TheVariants as written'
-use Rattle.ir_line.specs.declared.draft.DraftItem.{DraftItem}
-use Rattle.ir_line.specs.declared.draft.DraftItem.TheVariants as item
+use Rattle.ir_draft.specs.declared.head.Head.{Head}
+use Rattle.ir_draft.specs.declared.line.Line.{Line}
+use Rattle.ir_draft.specs.declared.line.Line.TheVariants as line
+use Rattle.ir_draft.specs.declared.written.Written.{Written}
+use Rattle.ir_draft.specs.declared.written.Written.TheVariants as written'
+use Rattle.ir_draft.specs.declared.draft.DraftItem.{DraftItem}
+use Rattle.ir_draft.specs.declared.draft.DraftItem.TheVariants as item
 use Rattle.ir_line.specs.Keeping.{first_symbol, or_later}
 use Rattle.ir_line.specs.Sound.{IsCallOp}
 use Rattle.ir_read.specs.declared.refusal.ReadRefusal.{ReadRefusal}

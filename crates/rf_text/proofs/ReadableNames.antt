@@ -12,7 +12,7 @@ use Rattle.ir_types.specs.declared.inst.Inst.{Inst}
 use Rattle.ir_types.specs.declared.func.Param.{Param}
 use Rattle.ir_types.specs.declared.func.Block.{Block}
 use Rattle.ir_types.specs.declared.func.Func.{Func}
-use Rattle.ir_line.specs.Values.{plain_number}
+use Rattle.ir_words.specs.Values.{plain_number}
 use Rattle.ir_print.specs.Names.{Named, is_store, is_void, result_named, insts_named, blocks_named, params_named, named_of}
 use Rattle.ir_types_check.specs.Outline as outline
 use Rattle.ir_types_check.specs.Outline.{written_name, written}

@@ -21,12 +21,12 @@ use Rattle.ir_types.specs.Renumbered.{new_id, new_opd, new_inst, new_block, new_
 use Rattle.ir_types.proofs.Formed.{Every}
 use Rattle.ir_types.proofs.Among.{among, same_is, same_itself, Once, once_of_pairs, In, OpdIn, InstIn, BlockIn, FuncIn, ItemIn, module_in}
 use Rattle.ir_types.proofs.Renumbered.{items_new_ids, renumbered_formed}
-use Rattle.ir_line.specs.declared.written.Written.{Written}
-use Rattle.ir_line.specs.declared.written.Written.TheVariants.{Local as LocalName}
-use Rattle.ir_line.specs.declared.written.Arg.{Arg}
-use Rattle.ir_line.specs.declared.stmt.Stmt.{Stmt}
-use Rattle.ir_line.specs.declared.line.Line.{Line}
-use Rattle.ir_line.specs.declared.line.Line.TheVariants as line
+use Rattle.ir_draft.specs.declared.written.Written.{Written}
+use Rattle.ir_draft.specs.declared.written.Written.TheVariants.{Local as LocalName}
+use Rattle.ir_draft.specs.declared.written.Arg.{Arg}
+use Rattle.ir_draft.specs.declared.stmt.Stmt.{Stmt}
+use Rattle.ir_draft.specs.declared.line.Line.{Line}
+use Rattle.ir_draft.specs.declared.line.Line.TheVariants as line
 use Rattle.ir_print.specs.declared.names.Local.{Local}
 use Rattle.ir_print.specs.Names.{Named, Value, Label, is_store, is_void, named_of, Names, names_of, local_of}
 use Rattle.ir_print.specs.Operands.{opd_ty}

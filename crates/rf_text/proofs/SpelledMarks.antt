@@ -6,9 +6,9 @@ use Rattle.ir_types.specs.declared.inst.Inst.{Inst}
 use Rattle.ir_types.specs.declared.func.Block.{Block}
 use Rattle.ir_types.specs.Formed.{is_terminator, ends_from, EndsOnce}
 use Rattle.ir_lex.proofs.Classes.{both}
-use Rattle.ir_line.specs.declared.line.Line.{Line}
-use Rattle.ir_line.specs.declared.line.Line.TheVariants as line
-use Rattle.ir_line.specs.declared.draft.Numbered.{Numbered}
+use Rattle.ir_draft.specs.declared.line.Line.{Line}
+use Rattle.ir_draft.specs.declared.line.Line.TheVariants as line
+use Rattle.ir_draft.specs.declared.draft.Numbered.{Numbered}
 use Rattle.ir_print.specs.Names.{Names, Named, Label, result_named, insts_named, blocks_named, is_store, is_void}
 use Rattle.rf_text.specs.Spelled.{AreBlocks, NoBlock, Labelled, Unlabelled}
 use Rattle.rf_text.specs.ModuleForms.{insts_forms}

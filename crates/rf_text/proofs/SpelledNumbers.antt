@@ -13,8 +13,8 @@ use Rattle.vx_digits.specs.Optional.{◌>>=◌, when}
 use Rattle.ir_lex.specs.Bytes.{begins_name, is_word_byte, is_digit}
 use Rattle.ir_lex.specs.Tokens.{is_name, is_number}
 use Rattle.ir_lex.proofs.Classes.{both, digit_no_name}
-use Rattle.ir_line.specs.Values.{plain_number}
-use Rattle.ir_line.proofs.Steps.{bytes_is}
+use Rattle.ir_words.specs.Values.{plain_number}
+use Rattle.ir_forms.proofs.Steps.{bytes_is}
 use Rattle.ir_read.specs.declared.refusal.ReadRefusal.{ReadRefusal}
 use Rattle.ir_read.specs.declared.refusal.ReadRefusal.TheVariants.{Misplaced}
 use Rattle.ir_read.specs.Numbers as reading

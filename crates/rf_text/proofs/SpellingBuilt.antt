@@ -13,9 +13,9 @@ use Rattle.ir_types.specs.declared.inst.Inst.{Inst}
 use Rattle.ir_types.specs.declared.func.Param.{Param}
 use Rattle.ir_types.specs.declared.func.Block.{Block}
 use Rattle.ir_types.specs.Formed.{is_terminator}
-use Rattle.ir_line.specs.declared.line.Line.{Line}
-use Rattle.ir_line.specs.declared.line.Line.TheVariants as line
-use Rattle.ir_line.specs.declared.draft.Numbered.{Numbered}
+use Rattle.ir_draft.specs.declared.line.Line.{Line}
+use Rattle.ir_draft.specs.declared.line.Line.TheVariants as line
+use Rattle.ir_draft.specs.declared.draft.Numbered.{Numbered}
 use Rattle.ir_print.specs.Names.{Names, shown, counted, is_store, is_void}
 use Rattle.ir_types_check.specs.declared.refusal.ResolveRefusal.{ResolveRefusal}
 use Rattle.ir_types_check.specs.Answers.{◌>>=◌}

@@ -14,8 +14,8 @@ use Rattle.ir_types.specs.declared.func.Block.{Block}
 use Rattle.ir_types.specs.declared.func.Func.{Func}
 use Rattle.ir_types.specs.declared.module.Module.{Module}
 use Rattle.ir_types.specs.Formed.{IsFormedBlock, IsFormedFunc}
-use Rattle.ir_line.specs.declared.line.Line.{Line}
-use Rattle.ir_line.specs.declared.line.Line.TheVariants as line
+use Rattle.ir_draft.specs.declared.line.Line.{Line}
+use Rattle.ir_draft.specs.declared.line.Line.TheVariants as line
 use Rattle.ir_print.specs.Names.{Names, named_of, names_of}
 use Rattle.ir_print.specs.Text.{blocks_text, func_text}
 use Rattle.ir_read.specs.Forms.{form_in, inside_after, forms_from}

@@ -20,14 +20,14 @@ use Rattle.ir_types.specs.Walks.{targets_at}
 use Rattle.ir_types.specs.Available.{op_targets, graph_of}
 use Rattle.ir_types.specs.Typed.{is_value, IsCase, IsTyped}
 use Rattle.ir_types.specs.Formed.{IsTarget, IsIncoming, IsFormedInst, value_ty, opd_ty}
-use Rattle.ir_line.specs.declared.written.Written.{Written as WrittenOpd}
-use Rattle.ir_line.specs.declared.written.Written.TheVariants as written'
-use Rattle.ir_line.specs.declared.written.Arg.{Arg}
-use Rattle.ir_line.specs.declared.stmt.Stmt.{Stmt}
-use Rattle.ir_line.specs.declared.line.Line.{Line}
-use Rattle.ir_line.specs.declared.line.Line.TheVariants as line
-use Rattle.ir_line.specs.declared.draft.Numbered.{Numbered}
-use Rattle.ir_line.proofs.Steps.{bytes_is, bytes_same}
+use Rattle.ir_draft.specs.declared.written.Written.{Written as WrittenOpd}
+use Rattle.ir_draft.specs.declared.written.Written.TheVariants as written'
+use Rattle.ir_draft.specs.declared.written.Arg.{Arg}
+use Rattle.ir_draft.specs.declared.stmt.Stmt.{Stmt}
+use Rattle.ir_draft.specs.declared.line.Line.{Line}
+use Rattle.ir_draft.specs.declared.line.Line.TheVariants as line
+use Rattle.ir_draft.specs.declared.draft.Numbered.{Numbered}
+use Rattle.ir_forms.proofs.Steps.{bytes_is, bytes_same}
 use Rattle.ir_print.specs.declared.names.Local.{Local}
 use Rattle.ir_print.specs.Names.{Names, names_of, named_of, locals_from, labels_from, local_of, is_void}
 use Rattle.ir_print.specs.Operands.{local_ty}

@@ -5,8 +5,8 @@ use Rattle.ir_types.specs.declared.module.Item.{Item}
 use Rattle.ir_types.specs.declared.module.Item.TheVariants as items
 use Rattle.ir_types.specs.declared.module.Module.{Module}
 use Rattle.ir_types.specs.Formed.{IsFormed, item_ids, ids_of, ids_of_items}
-use Rattle.ir_line.specs.declared.draft.DraftItem.{DraftItem}
-use Rattle.ir_line.specs.declared.draft.DraftItem.TheVariants as item
+use Rattle.ir_draft.specs.declared.draft.DraftItem.{DraftItem}
+use Rattle.ir_draft.specs.declared.draft.DraftItem.TheVariants as item
 use Rattle.ir_types_check.specs.declared.refusal.ResolveRefusal.{ResolveRefusal}
 use Rattle.ir_types_check.specs.Answers.{◌>>=◌}
 use Rattle.ir_types_check.specs.Scope.{Scope}

@@ -12,9 +12,9 @@ use Rattle.ir_lex.specs.Words.{words}
 use Rattle.ir_lex.proofs.Again.{stops, texts_append, token_alone}
 use Rattle.ir_lex.proofs.Classes.{both, clash}
 use Rattle.ir_lex.proofs.Laws.{words_of_line}
-use Rattle.ir_line.specs.Words.{Words, is_ascii}
+use Rattle.ir_words.specs.Words.{Words, is_ascii}
 use Rattle.ir_line.specs.Body.{is_mark, begins_mark, attachment_at, unattached, Formed, read_body}
-use Rattle.ir_line.specs.Forms.{Form, Slot, slots, Spell, line_of}
+use Rattle.ir_forms.specs.Forms.{Form, Slot, slots, Spell, line_of}
 use Rattle.ir_line.proofs.BodyLines.{body_read}
 use Rattle.ir_read.specs.Forms.{form_in, form_by}
 

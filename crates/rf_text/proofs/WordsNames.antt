@@ -8,7 +8,7 @@ use Rattle.ir_lex.specs.Tokens.{IsToken, Name, Unnamed, is_name}
 use Rattle.ir_lex.specs.Scan.{texts}
 use Rattle.ir_lex.proofs.Again.{stops}
 use Rattle.ir_lex.proofs.Classes.{both, clash, digit_no_name, name_word, digit_word}
-use Rattle.ir_line.specs.Values.{local_of, named, symbol_of, label_of}
+use Rattle.ir_words.specs.Values.{local_of, named, symbol_of, label_of}
 use Rattle.rf_text.specs.Shown.{IsLocalName}
 use Rattle.rf_text.proofs.Words.{is_plain, plain_is, word_plain, is_run, run_plain, one_word}
 use Rattle.rf_text.proofs.WordsNumbers.{IsDecimal, decimal_is, number_run}

@@ -10,7 +10,7 @@ use Rattle.vx_digits.specs.Optional.{◌>>=◌}
 use Rattle.ir_lex.specs.Bytes.{is_digit, is_word_byte}
 use Rattle.ir_lex.specs.Tokens.{is_number}
 use Rattle.ir_lex.proofs.Classes.{both, clash, digit_word}
-use Rattle.ir_line.specs.Values.{plain_number}
+use Rattle.ir_words.specs.Values.{plain_number}
 use Rattle.rf_text.proofs.Words.{is_run}
 
 -- whether the first of these is no zero

@@ -1,7 +1,7 @@
 -- What reading and resolving give: exactly the module that a text reads as, where the limits hold and types hold.
 use Rattle.std.specs.Prelude.{◌≡◌, ℕ, None, Ok, List}
 use Rattle.ir_types.specs.declared.module.Module.{Module}
-use Rattle.ir_line.specs.declared.draft.Draft.{Draft}
+use Rattle.ir_draft.specs.declared.draft.Draft.{Draft}
 use Rattle.ir_read.specs.Draft.{draft_of}
 use Rattle.ir_read.specs.Limits.{passed}
 use Rattle.ir_read.specs.Sizes.{size_of}

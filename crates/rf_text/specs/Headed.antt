@@ -10,9 +10,9 @@ use Rattle.ir_types.specs.declared.ty.Ty.TheVariants.{Void, Int, Ptr}
 use Rattle.ir_types.specs.declared.func.Param.{Param}
 use Rattle.ir_types.specs.declared.func.Func.{Func}
 use Rattle.ir_types.specs.Typed.{is_value}
-use Rattle.ir_line.specs.declared.head.Head.{Head}
-use Rattle.ir_line.specs.declared.line.Line.TheVariants.{Define}
-use Rattle.ir_line.specs.Values.{plain_number}
+use Rattle.ir_draft.specs.declared.head.Head.{Head}
+use Rattle.ir_draft.specs.declared.line.Line.TheVariants.{Define}
+use Rattle.ir_words.specs.Values.{plain_number}
 use Rattle.ir_line.specs.Keeping.{first_symbol, or_later}
 use Rattle.ir_line.specs.Headers.{header}
 use Rattle.ir_read.specs.Forms.{form_in}

@@ -9,8 +9,8 @@ use Rattle.ir_lex.specs.Bytes.{begins_name, is_word_byte, is_digit, is_sigil, is
 use Rattle.ir_lex.specs.Ends.{ends_outside}
 use Rattle.ir_lex.specs.Scan.{string_len, more_len, cut, texts, fault_of}
 use Rattle.ir_lex.specs.Words.{word}
-use Rattle.ir_line.specs.Values.{symbol_of}
-use Rattle.ir_line.specs.Words.{Words, is_ascii}
+use Rattle.ir_words.specs.Values.{symbol_of}
+use Rattle.ir_words.specs.Words.{Words, is_ascii}
 use Rattle.ir_line.specs.Headers.{span, depth_after, goes_on, stands, is_banned, is_callee}
 
 -- bytes that may be kept: nothing, or bytes that begin and end with a token

@@ -2,9 +2,9 @@
 use Rattle.std.specs.Prelude.{◌≡◌, refl, ℕ, ◌==◌, ◌||◌, not, Bool, true, false, None, Some, List, [], ◌∷◌, ◌++◌, codes}
 use Rattle.std.specs.List.{list_all}
 use Rattle.ir_lex.specs.Scan.{texts, fault_of}
-use Rattle.ir_line.specs.declared.line.Line.{Line}
-use Rattle.ir_line.specs.declared.line.Line.TheVariants as line
-use Rattle.ir_line.specs.declared.kept.Kept.{Kept}
+use Rattle.ir_draft.specs.declared.line.Line.{Line}
+use Rattle.ir_draft.specs.declared.line.Line.TheVariants as line
+use Rattle.ir_draft.specs.declared.kept.Kept.{Kept}
 use Rattle.ir_line.specs.Keeping.{kept_of}
 use Rattle.ir_read.specs.Lines.{lines_of}
 use Rattle.ir_read.specs.Forms.{form_in}

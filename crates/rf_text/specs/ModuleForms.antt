@@ -10,9 +10,9 @@ use Rattle.ir_types.specs.declared.func.Func.{Func}
 use Rattle.ir_types.specs.declared.module.Item.{Item}
 use Rattle.ir_types.specs.declared.module.Item.TheVariants.{Kept, Opaque, Func as FuncItem}
 use Rattle.ir_types.specs.declared.module.Module.{Module}
-use Rattle.ir_line.specs.declared.kept.Kept.{Kept as KeptLine}
-use Rattle.ir_line.specs.declared.line.Line.{Line}
-use Rattle.ir_line.specs.declared.line.Line.TheVariants as line
+use Rattle.ir_draft.specs.declared.kept.Kept.{Kept as KeptLine}
+use Rattle.ir_draft.specs.declared.line.Line.{Line}
+use Rattle.ir_draft.specs.declared.line.Line.TheVariants as line
 use Rattle.ir_line.specs.Keeping.{kept_of}
 use Rattle.ir_print.specs.Names.{Names, names_of}
 use Rattle.ir_print.specs.Text.{is_function}

@@ -6,8 +6,8 @@ use Rattle.std.specs.declared.option.Option.TheVariants.{None, Some}
 use Rattle.ir_types.specs.declared.ty.Ty.{Ty}
 use Rattle.ir_types.specs.declared.inst.Inst.{Inst}
 use Rattle.ir_types.specs.declared.func.Block.{Block}
-use Rattle.ir_line.specs.declared.line.Line.{Line}
-use Rattle.ir_line.specs.declared.line.Line.TheVariants.{Empty, Close, Label}
+use Rattle.ir_draft.specs.declared.line.Line.{Line}
+use Rattle.ir_draft.specs.declared.line.Line.TheVariants.{Empty, Close, Label}
 use Rattle.ir_print.specs.Names.{Names}
 use Rattle.ir_print.specs.Instructions.{inst_text}
 use Rattle.ir_print.specs.Text.{label_line, blocks_text}

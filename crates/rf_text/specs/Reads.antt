@@ -7,7 +7,7 @@
 -- Nothing is said here of limits, of types, of walks and of byte order: those are asked of a module that was read.
 use Rattle.std.specs.Prelude.{ℕ, List}
 use Rattle.ir_types.specs.declared.module.Module.{Module}
-use Rattle.ir_line.specs.declared.draft.DraftItem.{DraftItem}
+use Rattle.ir_draft.specs.declared.draft.DraftItem.{DraftItem}
 use Rattle.ir_read.specs.Items.{IsItems}
 use Rattle.ir_types_check.specs.Named.{Names}
 

@@ -2,7 +2,7 @@
 use Rattle.std.specs.Prelude.{◌≡◌, ℕ, Ok, None, List}
 use Rattle.ir_types.specs.declared.module.Module.{Module}
 use Rattle.ir_types.specs.Formed.{IsFormed}
-use Rattle.ir_line.specs.declared.draft.Draft.{Draft}
+use Rattle.ir_draft.specs.declared.draft.Draft.{Draft}
 use Rattle.ir_read.specs.Draft.{draft_of}
 use Rattle.ir_types_check.specs.declared.resolved.Resolved.{Resolved}
 use Rattle.ir_types_check.specs.Resolved.{resolved_of}

@@ -9,9 +9,9 @@ use Rattle.ir_types.specs.declared.module.Item.TheVariants.{Kept, Func}
 use Rattle.ir_types.specs.declared.module.Module.{Module}
 use Rattle.ir_types.specs.Formed.{IsFormed}
 use Rattle.ir_line.specs.Keeping.{keeps_mark, keeps_word}
-use Rattle.ir_line.specs.Values.{symbol_of, local_of, act_of}
-use Rattle.ir_line.specs.Reading.{labelled_at}
-use Rattle.ir_line.specs.Forms.{form, plain_line, act_line, by_act, returns}
+use Rattle.ir_words.specs.Values.{symbol_of, local_of, act_of}
+use Rattle.ir_forms.specs.Operands.{labelled_at}
+use Rattle.ir_forms.specs.Forms.{form, plain_line, act_line, by_act, returns}
 use Rattle.ir_line.specs.Headers.{header, head_of, ret_of, params_at}
 use Rattle.ir_line.specs.Body.{read_body, read_form}
 use Rattle.ir_line.specs.Outside.{read_outside}

@@ -11,12 +11,12 @@ use Rattle.ir_types.specs.declared.opd.Opd.TheVariants.{Val, Lit as LitOpd, Sym}
 use Rattle.ir_types.specs.declared.op.Op.{Op}
 use Rattle.ir_types.specs.declared.op.Op.TheVariants.{Load, Phi, Br, CondBr, Switch}
 use Rattle.ir_types.specs.declared.inst.Inst.{Inst}
-use Rattle.ir_line.specs.declared.written.Written.{Written}
-use Rattle.ir_line.specs.declared.written.Written.TheVariants.{Local, Symbol, Lit}
-use Rattle.ir_line.specs.declared.written.Arg.{Arg}
-use Rattle.ir_line.specs.declared.stmt.Stmt.{Stmt}
-use Rattle.ir_line.specs.declared.line.Line.{Line}
-use Rattle.ir_line.specs.declared.line.Line.TheVariants.{Stmt as StmtLine, Case, CasesEnd}
+use Rattle.ir_draft.specs.declared.written.Written.{Written}
+use Rattle.ir_draft.specs.declared.written.Written.TheVariants.{Local, Symbol, Lit}
+use Rattle.ir_draft.specs.declared.written.Arg.{Arg}
+use Rattle.ir_draft.specs.declared.stmt.Stmt.{Stmt}
+use Rattle.ir_draft.specs.declared.line.Line.{Line}
+use Rattle.ir_draft.specs.declared.line.Line.TheVariants.{Stmt as StmtLine, Case, CasesEnd}
 use Rattle.ir_print.specs.declared.names.Local.{Local as ShownLocal}
 use Rattle.ir_print.specs.Names.{Names, local_of, is_store, is_void}
 use Rattle.ir_print.specs.Operands.{opd_ty}

@@ -11,7 +11,7 @@ use Rattle.ir_types.specs.declared.module.Item.TheVariants.{Kept, Opaque, Func a
 use Rattle.ir_types.specs.declared.module.Module.{Module}
 use Rattle.ir_types.specs.Formed.{IsFormed}
 use Rattle.ir_types.specs.Available.{IsAvailable, IsFirstMiss, InstMisses, BlockMisses, FuncMisses, ItemMisses, OpdMisses, IsAvailableOpd, IsAvailableInst, IsAvailableBlock, IsAvailableFunc, IsAvailableItem, First, Each}
-use Rattle.ir_line.specs.declared.draft.Draft.{Draft}
+use Rattle.ir_draft.specs.declared.draft.Draft.{Draft}
 use Rattle.ir_read.specs.Draft.{draft_of}
 use Rattle.ir_read.specs.declared.refusal.ReadRefusal.{ReadRefusal}
 use Rattle.ir_avail.specs.declared.refusal.AvailRefusal.{AvailRefusal}

@@ -13,7 +13,7 @@ use Rattle.ir_types.specs.declared.module.Item.TheVariants.{Func as FuncItem}
 use Rattle.ir_types.specs.declared.module.Module.{Module}
 use Rattle.ir_types.specs.Available.{same_id, IsAvailable, IsFirstMiss}
 use Rattle.ir_types.specs.Formed.{IsFormed}
-use Rattle.ir_line.specs.declared.draft.Draft.{Draft}
+use Rattle.ir_draft.specs.declared.draft.Draft.{Draft}
 use Rattle.ir_print.specs.Names.{names_of, local_of}
 use Rattle.ir_print.specs.Operands.{local_text}
 use Rattle.ir_read.specs.declared.refusal.ReadRefusal.TheVariants as unread

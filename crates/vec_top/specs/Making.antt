@@ -6,7 +6,7 @@ use Rattle.std.specs.declared.alloc.Global.{Global}
 use Rattle.vx_io.specs.Count.{Rose}
 use Rattle.ir_types.specs.declared.module.Module.{Module}
 use Rattle.ir_types.specs.Formed.{IsFormed}
-use Rattle.ir_line.specs.declared.draft.Draft.{Draft}
+use Rattle.ir_draft.specs.declared.draft.Draft.{Draft}
 use Rattle.ir_read.specs.Draft.{draft_of}
 use Rattle.ir_types_check.specs.declared.resolved.Resolved.{Resolved}
 use Rattle.vec_words.specs.declared.commands.Command.{Command}

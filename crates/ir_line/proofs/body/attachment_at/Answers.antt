@@ -1,6 +1,6 @@
 -- A line without `!` has no attachments.
 use Rattle.std.proofs.Common.{sym}
-use Rattle.ir_line.proofs.FirstBytes.{unmarked}
+use Rattle.ir_line.proofs.MarkedLines.{unmarked}
 use Rattle.ir_line.proofs.body.attachment_at.Goals as goal
 
 pub returns-in-None-clause-value : goal.returns-in-None-clause-value

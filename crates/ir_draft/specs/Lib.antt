@@ -1,0 +1,2 @@
+-- What the types of a draft stand for.
+pub mod Args

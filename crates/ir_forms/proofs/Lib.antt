@@ -1,0 +1,10 @@
+pub mod FlagWords
+pub mod LaneValues
+pub mod LineEnds
+pub mod Parts
+pub mod Places
+pub mod PoisonPointers
+pub mod PowerAligns
+pub mod Steps
+pub mod Trees
+pub mod TypesOfKinds

@@ -1,6 +1,0 @@
--- Up to here both lists have the same operands.
-use Rattle.std.proofs.Common.{◌≡◌, length, take}
-use Rattle.ir_line.proofs.args.are_same.Given as goal
-
-abbrev pub invariant-loop-i : goal.invariant-loop-i
-invariant-loop-i l = (length l.left ≡ length l.right) × (take l.i l.left ≡ take l.i l.right)

@@ -1,0 +1,6 @@
+-- What words say, and how parts are read from the front of them.
+pub mod Kinds
+pub mod Layout
+pub mod Reading
+pub mod Values
+pub mod Words

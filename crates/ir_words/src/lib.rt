@@ -1,0 +1,14 @@
+//! The words of a line, and the parts that stand on words alone: types, literals, flags, keywords, the string of a layout.
+//!
+//! The rest of a line is its bytes and the tokens that are left; nothing is copied but names and lanes. Each reader gives what it
+//! read from the front and what is left, or stops (`ir_draft::Stop`): the front is no such part, or there was no memory.
+#![tactic(auto)]
+
+pub mod flags;
+pub mod kinds;
+pub mod layout;
+pub mod literals;
+pub mod opcode;
+pub mod types;
+pub mod values;
+pub mod words;
