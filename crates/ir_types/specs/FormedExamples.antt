@@ -52,23 +52,23 @@ formed = record {
   once = λ i j d below within. absurd (omega arith);
   available = each_one IsAvailableItem _ (each_one (IsAvailableBlock func) _ (each_one (IsAvailableInst func 0) _ (each_none (IsAvailableOpd func 0 0 returns))));
 } where
-    fine : IsFormedInst one func 0 0 returns
-    fine = record { operands = All-nil IsOpd; typed = (refl, inl (refl, refl)); targets = All-nil (IsTarget func); incoming = tt; calling = tt; allocas = λ h. absurd cc }
+  fine : IsFormedInst one func 0 0 returns
+  fine = record { operands = All-nil IsOpd; typed = (refl, inl (refl, refl)); targets = All-nil (IsTarget func); incoming = tt; calling = tt; allocas = λ h. absurd cc }
 
-    ends : IsFormedBlock one func 0 (block (returns ∷ []))
-    ends = record { ends = refl; phis = ((λ h. absurd cc), tt); insts = each_one (IsFormedInst one func 0) _ fine }
+  ends : IsFormedBlock one func 0 (block (returns ∷ []))
+  ends = record { ends = refl; phis = ((λ h. absurd cc), tt); insts = each_one (IsFormedInst one func 0) _ fine }
 
-    whole : IsFormedFunc one func
-    whole = record { returns = inl refl; params = All-nil _; blocks = each_one (IsFormedBlock one func) _ ends; some = lit< tt }
+  whole : IsFormedFunc one func
+  whole = record { returns = inl refl; params = All-nil _; blocks = each_one (IsFormedBlock one func) _ ends; some = lit< tt }
 
-    silent : IsPlainInst returns
-    silent = record { named = refl; silent = λ h. refl; pointers = All-nil IsPoisonIfPointer }
+  silent : IsPlainInst returns
+  silent = record { named = refl; silent = λ h. refl; pointers = All-nil IsPoisonIfPointer }
 
-    unnamed : IsPlainBlock (block (returns ∷ []))
-    unnamed = record { named = refl; insts = All-cons IsPlainInst returns [] silent (All-nil IsPlainInst) }
+  unnamed : IsPlainBlock (block (returns ∷ []))
+  unnamed = record { named = refl; insts = All-cons IsPlainInst returns [] silent (All-nil IsPlainInst) }
 
-    named : IsPlainFunc func
-    named = record { named = refl; params = All-nil _; blocks = All-cons IsPlainBlock _ [] unnamed (All-nil IsPlainBlock) }
+  named : IsPlainFunc func
+  named = record { named = refl; params = All-nil _; blocks = All-cons IsPlainBlock _ [] unnamed (All-nil IsPlainBlock) }
 
 -- a block without an instruction does not end, and none ends twice
 never : EndsOnce [] → ⊥

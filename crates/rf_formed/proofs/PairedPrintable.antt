@@ -125,9 +125,9 @@ module _ (before name : List ℕ) (ret : Ty) (params : List Param) (after : List
       allowed : All New new
       allowed = all_of_every New new (joined_every Old New (λ i h. All-weaker (IsAllowed (ModuleOf is)) (IsAllowed (ModuleOf new)) opd_allowed i.opds h) (λ i a j b both pi l pj k s. make a b j both s) joined
           (every_of_all Old is (All-head (IsAllowedBlock (ModuleOf is)) (BlockOf is) [] (All-head (IsAllowedItem (ModuleOf is)) (FuncItem (FuncOf is)) [] p.operands)))) where
-        make : (a b : LedStore) (j both : Inst) → IsBoth a b j both → New both
-        make a b j both (inl e) = subst New (sym e) (both_allowed a b j)
-        make a b j both (inr e) = subst New (sym e) (both_allowed b a j)
+            make : (a b : LedStore) (j both : Inst) → IsBoth a b j both → New both
+            make a b j both (inl e) = subst New (sym e) (both_allowed a b j)
+            make a b j both (inr e) = subst New (sym e) (both_allowed b a j)
 
       joined_printable : IsPrintable (ModuleOf new)
       joined_printable = record {

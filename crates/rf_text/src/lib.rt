@@ -21,8 +21,6 @@ pub use outside::{
     forms_are_of_lines, headers_again, headers_are_heads, heads_of_lines, kept_by_text,
     kept_lines_again, lines_again, params_are_shown, sound_are_lines,
 };
-pub use readable::{
-    read_modules_are_numbered, read_modules_are_plain, read_modules_are_printable,
-};
+pub use readable::{read_modules_are_numbered, read_modules_are_plain, read_modules_are_printable};
 pub use spelled::{accepted_texts_spell, one_spelled_module, spelled_texts_read};
 pub use text_lines::texts_are_lines;
