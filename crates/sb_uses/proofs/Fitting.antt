@@ -36,6 +36,7 @@ fits (e ∷ es) v us apart known =
   where
     last : Use
     last = record { user = e.0.user; slot = e.0.slot }
+
     further : (w : Use) → has w (taken last us) ≡ true → there (lookup (same_held (slot_of v w)) es) ≡ true
     further w h = go (same_held (slot_of v w) e.0) refl (known w (taken-has last w us h))
       where

@@ -1,3 +1,4 @@
 pub mod Segments
 pub mod Writes
 pub mod Fitting
+pub mod Keeping

@@ -14,7 +14,7 @@ use Rattle.sb_uses.specs.Places.{has, stands, put_from}
 pub false-true : false ≡ true → ⊥
 false-true h = cc
 
-none-some : {u : Use} → None ≡ Some u → ⊥
+pub none-some : {u : Use} → None ≡ Some u → ⊥
 none-some h = cc
 
 some-one : {u v : Use} → Some u ≡ Some v → u ≡ v
@@ -148,19 +148,19 @@ pub prev-next : (n : Option Use → Option Use) (p : Use → Option Use) (k : Op
 prev-next n p k a [] u seg got = absurd (false-true got)
 prev-next n p k a (v ∷ vs) u seg got =
     has-split v u vs got
-      (λ e. subst (λ x. n (p x) ≡ Some x) e (ap n seg.0.1 ∙ seg.0.0))
-      (λ _ h. prev-next n p k (Some v) vs u seg.1.1 h)
+    (λ e. subst (λ x. n (p x) ≡ Some x) e (ap n seg.0.1 ∙ seg.0.0))
+    (λ _ h. prev-next n p k (Some v) vs u seg.1.1 h)
 
 next-prev : (n : Option Use → Option Use) (p : Use → Option Use) (k : Option Use → Bool) (a : Option Use) (us : List Use) (u y : Use) → Seg n p k a us → has u us ≡ true → n (Some u) ≡ Some y → p y ≡ Some u
 next-prev n p k a [] u y seg got e = absurd (false-true got)
 next-prev n p k a (v ∷ []) u y seg got e =
     has-split v u [] got
-      (λ is. absurd (none-some (sym seg.1.1 ∙ ap (λ x. n (Some x)) is ∙ e)))
-      (λ _ h. absurd (false-true h))
+    (λ is. absurd (none-some (sym seg.1.1 ∙ ap (λ x. n (Some x)) is ∙ e)))
+    (λ _ h. absurd (false-true h))
 next-prev n p k a (v ∷ w ∷ ws) u y seg got e =
     has-split v u (w ∷ ws) got
-      (λ is. ap p (some-one (sym e ∙ ap (λ x. n (Some x)) (sym is) ∙ seg.1.1.0.0)) ∙ seg.1.1.0.1 ∙ ap Some is)
-      (λ _ h. next-prev n p k (Some v) (w ∷ ws) u y seg.1.1 h e)
+    (λ is. ap p (some-one (sym e ∙ ap (λ x. n (Some x)) (sym is) ∙ seg.1.1.0.0)) ∙ seg.1.1.0.1 ∙ ap Some is)
+    (λ _ h. next-prev n p k (Some v) (w ∷ ws) u y seg.1.1 h e)
 
 -- a use of the list is there
 pub seg-known : (n : Option Use → Option Use) (p : Use → Option Use) (k : Option Use → Bool) (a : Option Use) (us : List Use) (u : Use) → Seg n p k a us → has u us ≡ true → k (Some u) ≡ true
@@ -197,22 +197,28 @@ module _ (n m : Option Use → Option Use) (p q : Use → Option Use) (k l : Opt
 
   put-here : (us : List Use) → Seg n p k a us → Apart us → Off a us → has u us ≡ false → (a ≡ Some u → ⊥) → Seg m q l a (u ∷ us)
   put-here [] seg apart off lacks ne = ((next-at, prev-new (λ e. none-some (sym seg ∙ e))), (P.there, next-new ne ∙ seg))
-  put-here (y ∷ ys) seg apart off lacks ne =
-      ( (next-at, prev-new (λ e. lacks-head y u ys lacks (some-one (sym seg.0.0 ∙ e))))
-      , (P.there
-        , ( (next-new ne ∙ seg.0.0, prev-after y seg.0.0)
-          , (P.keeps (Some y) seg.1.0, seg-same n m p q k l (Some y) ys seg.1.1 (keep-next y (has-head y ys)) (λ w h. (keep-next w (has-more y w ys h), keep-prev w h)) P.keeps))))
+  put-here (y ∷ ys) seg apart off lacks ne = (
+    (next-at, prev-new (λ e. lacks-head y u ys lacks (some-one (sym seg.0.0 ∙ e)))),
+    (
+      P.there,
+      (
+        (next-new ne ∙ seg.0.0, prev-after y seg.0.0),
+        (P.keeps (Some y) seg.1.0, seg-same n m p q k l (Some y) ys seg.1.1 (keep-next y (has-head y ys)) (λ w h. (keep-next w (has-more y w ys h), keep-prev w h)) P.keeps),
+      ),
+    ),
+  )
     where
       keep-next : (w : Use) → has w (y ∷ ys) ≡ true → m (Some w) ≡ n (Some w)
       keep-next w h = next-else (Some w) (off-ne a (y ∷ ys) w off h) (λ e. other u w (y ∷ ys) lacks h (some-one e))
+
       keep-prev : (w : Use) → has w ys ≡ true → q w ≡ p w
       keep-prev w h = prev-else w (λ e. other y w ys apart.0 h (some-one (sym seg.0.0 ∙ e))) (other u w (y ∷ ys) lacks (has-more y w ys h))
 
   -- the place is where the walk stands, or further on
-  abbrev Ahead : Option Use → List Use → Type 0
+  abbrev pub Ahead : Option Use → List Use → Type 0
   Ahead c us = (c ≡ a → ⊥) → (w : Use) × (a ≡ Some w) × (has w us ≡ true)
 
-  put-in : (c : Option Use) (us : List Use) → Seg n p k c us → Apart us → Off c us → has u us ≡ false → (c ≡ Some u → ⊥) → Ahead c us → Seg m q l c (put_from c a u us)
+  pub put-in : (c : Option Use) (us : List Use) → Seg n p k c us → Apart us → Off c us → has u us ≡ false → (c ≡ Some u → ⊥) → Ahead c us → Seg m q l c (put_from c a u us)
   put-in c [] seg apart off lacks ne ahead = go (same_end c a) refl
     where
       go : (b : Bool) → same_end c a ≡ b → Seg m q l c (u ∷ [])
@@ -224,16 +230,19 @@ module _ (n m : Option Use → Option Use) (p q : Use → Option Use) (k l : Opt
       further differ not_x =
           let w = ahead differ in
           (w.0, w.1, has-split x w.0 xs w.2 (λ e. absurd (not_x (ap Some e ∙ sym w.1))) (λ _ h. h))
+
       apart_from : (c ≡ a → ⊥) → n a ≡ Some x → ⊥
       apart_from differ e =
           let w = ahead differ in
           differ (sym seg.0.1 ∙ next-prev n p k c (x ∷ xs) w.0 x seg w.2 (ap n (sym w.1) ∙ e) ∙ sym w.1)
+
       go : (b : Bool) → same_end c a ≡ b → (Ahead (Some x) xs → Seg m q l (Some x) (put_from (Some x) a u xs)) → Seg m q l c (cond b (u ∷ x ∷ xs) (x ∷ put_from (Some x) a u xs))
       go true e rest = subst (λ y. Seg m q l y (u ∷ x ∷ xs)) (sym (end-is c a e)) (put-here (x ∷ xs) (subst (λ y. Seg n p k y (x ∷ xs)) (end-is c a e) seg) apart (subst (λ y. Off y (x ∷ xs)) (end-is c a e) off) lacks (λ f. ne (end-is c a e ∙ f)))
       go false e rest =
-          let differ = end-not c a e in
-          ( (next-else c (λ f. differ (sym f)) (λ f. ne (sym f)) ∙ seg.0.0, prev-else x (apart_from differ) (λ f. lacks-head x u xs lacks (sym f)) ∙ seg.0.1)
-          , (P.keeps (Some x) seg.1.0, rest (further differ)))
+          let differ = end-not c a e in (
+            (next-else c (λ f. differ (sym f)) (λ f. ne (sym f)) ∙ seg.0.0, prev-else x (apart_from differ) (λ f. lacks-head x u xs lacks (sym f)) ∙ seg.0.1),
+            (P.keeps (Some x) seg.1.0, rest (further differ)),
+          )
 
 -- ---- a use taken out
 
@@ -258,26 +267,31 @@ module _ (n m : Option Use → Option Use) (p q : Use → Option Use) (k l : Opt
 
   out-here : (a : Option Use) (us : List Use) → Seg n p k a (u ∷ us) → Apart (u ∷ us) → Off a (u ∷ us) → Seg m q l a us
   out-here a [] seg apart off = out-at a seg.0.1 ∙ seg.1.1
-  out-here a (y ∷ ys) seg apart off =
-      ( (out-at a seg.0.1 ∙ seg.1.1.0.0, back-at y seg.1.1.0.0 ∙ seg.0.1)
-      , (T.keeps (Some y) seg.1.1.1.0, seg-same n m p q k l (Some y) ys seg.1.1.1.1 (keep-next y (has-head y ys)) (λ w h. (keep-next w (has-more y w ys h), keep-prev w h)) T.keeps))
+  out-here a (y ∷ ys) seg apart off = (
+    (out-at a seg.0.1 ∙ seg.1.1.0.0, back-at y seg.1.1.0.0 ∙ seg.0.1),
+    (T.keeps (Some y) seg.1.1.1.0, seg-same n m p q k l (Some y) ys seg.1.1.1.1 (keep-next y (has-head y ys)) (λ w h. (keep-next w (has-more y w ys h), keep-prev w h)) T.keeps),
+  )
     where
       keep-next : (w : Use) → has w (y ∷ ys) ≡ true → m (Some w) ≡ n (Some w)
       keep-next w h = out-else (Some w) (λ e. off-ne a (u ∷ y ∷ ys) w off (has-more u w (y ∷ ys) h) (sym seg.0.1 ∙ e))
+
       keep-prev : (w : Use) → has w ys ≡ true → q w ≡ p w
       keep-prev w h = back-else w (λ e. other y w ys apart.1.0 h (some-one (sym seg.1.1.0.0 ∙ e)))
 
-  take-out : (a : Option Use) (us : List Use) → Seg n p k a us → Apart us → Off a us → has u us ≡ true → Seg m q l a (taken u us)
+  pub take-out : (a : Option Use) (us : List Use) → Seg n p k a us → Apart us → Off a us → has u us ≡ true → Seg m q l a (taken u us)
   take-out a [] seg apart off got = absurd (false-true got)
   take-out a (x ∷ xs) seg apart off got = go (same_use x u) refl got (take-out (Some x) xs seg.1.1 apart.1 apart.0)
     where
       go : (b : Bool) → same_use x u ≡ b → cond b true (has u xs) ≡ true → (has u xs ≡ true → Seg m q l (Some x) (taken u xs)) → Seg m q l a (cond b xs (x ∷ taken u xs))
       go true e h rest = out-here a xs (subst (λ y. Seg n p k a (y ∷ xs)) (use-is x u e) seg) (subst (λ y. Apart (y ∷ xs)) (use-is x u e) apart) (subst (λ y. Off a (y ∷ xs)) (use-is x u e) off)
       go false e h rest =
-          let in_all = has-more x u xs h in
-          ( ( out-else a (λ f. use-not x u e (some-one (sym seg.0.0 ∙ ap n (sym f) ∙ prev-next n p k a (x ∷ xs) u seg in_all))) ∙ seg.0.0
-            , back-else x (λ f. off-ne a (x ∷ xs) u off in_all (sym seg.0.1 ∙ next-prev n p k a (x ∷ xs) u x seg in_all f)) ∙ seg.0.1)
-          , (T.keeps (Some x) seg.1.0, rest h))
+          let in_all = has-more x u xs h in (
+            (
+              out-else a (λ f. use-not x u e (some-one (sym seg.0.0 ∙ ap n (sym f) ∙ prev-next n p k a (x ∷ xs) u seg in_all))) ∙ seg.0.0,
+              back-else x (λ f. off-ne a (x ∷ xs) u off in_all (sym seg.0.1 ∙ next-prev n p k a (x ∷ xs) u x seg in_all f)) ∙ seg.0.1,
+            ),
+            (T.keeps (Some x) seg.1.0, rest h),
+          )
 
 -- ---- lists without a use, and with it again
 
@@ -288,6 +302,7 @@ taken-had u w (x ∷ xs) h = go (same_use x u) (lacks-more x w xs h) (taken-had 
     none : (b : Bool) (t : Bool) → cond b true t ≡ false → (r : Bool) → r ≡ false → cond b true r ≡ false
     none true t e r f = e
     none false t e r f = f
+
     go : (b : Bool) → has w xs ≡ false → has w (taken u xs) ≡ false → has w (cond b xs (x ∷ taken u xs)) ≡ false
     go true f g = f
     go false f g = none (same_use x w) (has w xs) h (has w (taken u xs)) g
@@ -332,6 +347,7 @@ comes-back n p k c (x ∷ xs) u seg apart off got = go (same_use x u) refl got (
     here : (ys : List Use) → c ≡ p u → put_from c (p u) u ys ≡ u ∷ ys
     here [] e = refl
     here (y ∷ ys) e = hit _ (subst (λ z. same_end c z ≡ true) e (end-itself c))
+
     go : (b : Bool) → same_use x u ≡ b → cond b true (has u xs) ≡ true → (has u xs ≡ true → put_from (Some x) (p u) u (taken u xs) ≡ xs) → put_from c (p u) u (cond b xs (x ∷ taken u xs)) ≡ x ∷ xs
     go true e h rest = here xs (sym seg.0.1 ∙ ap p (use-is x u e)) ∙ ap (λ y. y ∷ xs) (sym (use-is x u e))
     go false e h rest =
