@@ -8,7 +8,8 @@ use Rattle.sb_uses.specs.declared.chains.Held.{Held}
 use Rattle.sb_uses.specs.declared.chains.Links.{Links}
 use Rattle.sb_uses.specs.Chains.{slot_of, same_held, there}
 use Rattle.sb_uses.specs.Places.{has}
-use Rattle.sb_uses.proofs.Segments.{false-true, Apart, has-head, taken-had, taken-apart, taken-lacks}
+use Rattle.sb_uses.specs.Whole.{Apart}
+use Rattle.sb_uses.proofs.Segments.{false-true, has-head, taken-had, taken-apart, taken-lacks}
 use Rattle.sb_uses.proofs.Writes.{held-is}
 
 taken-long : (u : Use) (us : List Use) → length us ≤ suc (length (taken u us))

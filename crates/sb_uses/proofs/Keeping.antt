@@ -9,19 +9,15 @@ use Rattle.sb_uses.specs.declared.chains.Chains.{Chains}
 use Rattle.sb_uses.specs.Chains.{next, prev, known, lists, same_held, slot_of, same_end}
 use Rattle.sb_uses.specs.Places.{has, stands, put, put_from}
 use Rattle.sb_uses.specs.Linking.{IsLinked, IsUnlinked}
-use Rattle.sb_uses.proofs.Segments.{false-true, none-some, Apart, Seg, seg-same, seg-known, walked, PutIn, put-in, TakenOut, take-out, taken-apart, put-apart, comes-back}
+use Rattle.sb_uses.specs.Whole.{Apart, Seg, IsWhole}
+use Rattle.sb_uses.proofs.Segments.{false-true, none-some, seg-same, seg-known, walked, PutIn, put-in, TakenOut, take-out, taken-apart, put-apart, comes-back}
 use Rattle.sb_uses.proofs.Fitting.{fits}
-
--- the slots of a value are linked as its list says, and each use is once in it
-pub record IsWhole (s : Chains) (v : Id) : Type 0 where
-  pub seg : Seg (next s v) (prev s v) (known s v) None (lists s v)
-  pub once : Apart (lists s v)
 
 own : {X : Type 0} (v : Id) (e : Bool) (x y : X) → cond (same_id v v && e) x y ≡ cond e x y
 own v e x y = ap (λ b. cond (b && e) x y) (same_itself v)
 
 -- a list that is linked is the one that is walked
-whole : (t : Chains) (v : Id) (us : List Use) → Seg (next t v) (prev t v) (known t v) None us → Apart us → (lists t v ≡ us) × IsWhole t v
+pub whole : (t : Chains) (v : Id) (us : List Use) → Seg (next t v) (prev t v) (known t v) None us → Apart us → (lists t v ≡ us) × IsWhole t v
 whole t v us seg once =
     let is : lists t v ≡ us = walked (next t v) (prev t v) (known t v) None us (length t.slots.entries) seg (fits t.slots.entries v us once (λ w h. seg-known (next t v) (prev t v) (known t v) None us w seg h)) in
     (is, record { seg = subst (λ l. Seg (next t v) (prev t v) (known t v) None l) (sym is) seg; once = subst Apart (sym is) once })

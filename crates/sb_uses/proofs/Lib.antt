@@ -2,3 +2,6 @@ pub mod Segments
 pub mod Writes
 pub mod Fitting
 pub mod Keeping
+pub mod Entered
+pub mod Walking
+pub mod Steps

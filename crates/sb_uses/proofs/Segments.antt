@@ -8,6 +8,7 @@ use Rattle.ir_types.proofs.Among.{same_is, same_itself}
 use Rattle.vx_view.specs.Uses.{same_use, taken}
 use Rattle.sb_uses.specs.Chains.{same_end, walk, first_then}
 use Rattle.sb_uses.specs.Places.{has, stands, put_from}
+use Rattle.sb_uses.specs.Whole.{Apart, Seg}
 
 -- ---- tests
 
@@ -17,7 +18,7 @@ false-true h = cc
 pub none-some : {u : Use} → None ≡ Some u → ⊥
 none-some h = cc
 
-some-one : {u v : Use} → Some u ≡ Some v → u ≡ v
+pub some-one : {u v : Use} → Some u ≡ Some v → u ≡ v
 some-one h = cc
 
 pub and-left : (a b : Bool) → (a && b) ≡ true → a ≡ true
@@ -49,7 +50,7 @@ to-false false n = refl
 pub use-other : (a b : Use) → (a ≡ b → ⊥) → same_use a b ≡ false
 use-other a b n = to-false (same_use a b) (λ h. n (use-is a b h))
 
-use-not : (a b : Use) → same_use a b ≡ false → a ≡ b → ⊥
+pub use-not : (a b : Use) → same_use a b ≡ false → a ≡ b → ⊥
 use-not a b h e = false-true (sym h ∙ subst (λ x. same_use a x ≡ true) e (use-itself a))
 
 pub end-is : (a b : Option Use) → same_end a b ≡ true → a ≡ b
@@ -76,11 +77,6 @@ miss {X} {b} x {y} e = ap (λ t. cond t x y) e
 
 -- ---- membership
 
--- no use is in the list twice
-abbrev pub Apart : List Use → Type 0
-Apart [] = Unit {0}
-Apart (u ∷ us) = (has u us ≡ false) × Apart us
-
 -- the list does not have what it comes after
 abbrev pub Off : Option Use → List Use → Type 0
 Off None us = Unit {0}
@@ -97,7 +93,7 @@ has-more v u vs h = go (same_use v u)
     go false = h
 
 -- what is in a list with a first use is that or another
-has-split : {X : Type 0} (v u : Use) (vs : List Use) → has u (v ∷ vs) ≡ true → (v ≡ u → X) → (same_use v u ≡ false → has u vs ≡ true → X) → X
+pub has-split : {X : Type 0} (v u : Use) (vs : List Use) → has u (v ∷ vs) ≡ true → (v ≡ u → X) → (same_use v u ≡ false → has u vs ≡ true → X) → X
 has-split {X} v u vs h this others = go (same_use v u) refl h
   where
     go : (b : Bool) → same_use v u ≡ b → cond b true (has u vs) ≡ true → X
@@ -123,11 +119,6 @@ off-ne None us w off got e = none-some e
 off-ne (Some a) us w off got e = other a w us off got (some-one e)
 
 -- ---- segments
-
--- from `a` on the slots name each other and are there, as far as the list goes
-abbrev pub Seg : (Option Use → Option Use) → (Use → Option Use) → (Option Use → Bool) → Option Use → List Use → Type 0
-Seg n p k a [] = n a ≡ None
-Seg n p k a (u ∷ us) = ((n a ≡ Some u) × (p u ≡ a)) × ((k (Some u) ≡ true) × Seg n p k (Some u) us)
 
 -- slots that keep their neighbours
 pub seg-same : (n m : Option Use → Option Use) (p q : Use → Option Use) (k l : Option Use → Bool) (a : Option Use) (us : List Use) → Seg n p k a us → m a ≡ n a → ((w : Use) → has w us ≡ true → (m (Some w) ≡ n (Some w)) × (q w ≡ p w)) → ((c : Option Use) → k c ≡ true → l c ≡ true) → Seg m q l a us

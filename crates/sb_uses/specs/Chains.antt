@@ -2,10 +2,10 @@
 --
 -- The list of a value is walked from its head, from each use to the next older one. `walk` takes so many steps at most; there are no
 -- more than slots.
-use Rattle.std.specs.Prelude.{◌≡◌, refl, ℕ, zero, suc, Bool, true, false, cond, ◌&&◌, ◌==◌, List, [], ◌∷◌, length}
+use Rattle.std.specs.Prelude.{◌≡◌, ℕ, zero, suc, min, Bool, true, false, cond, ◌&&◌, ◌==◌, List, [], ◌∷◌, length}
 use Rattle.std.specs.declared.option.Option.{Option}
 use Rattle.std.specs.declared.option.Option.TheVariants.{None, Some}
-use Rattle.std.specs.HashMap.{get}
+use Rattle.std.specs.HashMap.{get, spare}
 use Rattle.ir_types.specs.declared.id.Id.{Id}
 use Rattle.ir_types.specs.declared.id.Use.{Use}
 use Rattle.ir_types.specs.Available.{same_id}
@@ -72,3 +72,13 @@ walk n (suc k) at = first_then (n at) (λ u. walk n k (Some u))
 
 abbrev pub lists : Chains → Lists
 lists s v = walk (next s v) (length s.slots.entries) None
+
+-- ---- room
+
+-- how many uses can be added without more memory
+abbrev pub room : Chains → ℕ
+room s = min (spare s.heads) (spare s.slots)
+
+-- both have the same room
+abbrev pub SameRoom : Chains → Chains → Type 0
+SameRoom s t = (spare t.heads ≡ spare s.heads) × (spare t.slots ≡ spare s.slots)

@@ -2,3 +2,6 @@
 pub mod Chains
 pub mod Places
 pub mod Linking
+pub mod Entering
+pub mod Whole
+pub mod Spots

@@ -8,8 +8,9 @@
 #![tactic(auto)]
 
 mod chains;
+mod entering;
+mod listing;
+mod use_lists;
 
-pub use chains::{Chains, Held, Links};
+pub use use_lists::{Spot, UseLists};
 
-/// That memory could not be had, which no contract promises.
-pub type OutOfMemory = std::alloc::AllocError;
