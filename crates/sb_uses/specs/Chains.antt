@@ -14,6 +14,10 @@ use Rattle.sb_uses.specs.declared.chains.Held.{Held}
 use Rattle.sb_uses.specs.declared.chains.Links.{Links}
 use Rattle.sb_uses.specs.declared.chains.Chains.{Chains}
 
+-- what contracts see of a `UseLists`
+abbrev pub Slots : Type 0
+Slots = Chains
+
 -- ---- slots
 
 abbrev pub same_held : Held → Held → Bool

@@ -28,10 +28,10 @@ put newer u us = put_from None newer u us
 
 -- ---- worked examples, with the uses 3, 2 and 1, newest first
 
-abbrev use_of : ℕ → ℕ → Use
+abbrev pub use_of : ℕ → ℕ → Use
 use_of user slot = record { user = value user; slot = slot }
 
-abbrev three : List Use
+abbrev pub three : List Use
 three = use_of 3 0 ∷ use_of 2 0 ∷ use_of 1 0 ∷ []
 
 the_middle_goes : taken (use_of 2 0) three ≡ use_of 3 0 ∷ use_of 1 0 ∷ []

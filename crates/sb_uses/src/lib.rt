@@ -10,6 +10,8 @@
 mod chains;
 mod entering;
 mod listing;
+#[cfg(test)]
+mod tests;
 mod use_lists;
 
 pub use use_lists::{Spot, UseLists};
