@@ -6,7 +6,7 @@ use Rattle.ir_types.specs.declared.id.Use.{Use}
 use Rattle.ir_types.specs.Available.{same_id}
 use Rattle.sb_uses.specs.declared.chains.Held.{Held}
 use Rattle.sb_uses.specs.declared.chains.Chains.{Chains}
-use Rattle.sb_uses.specs.Chains.{next, prev, known, same_held, slot_of, there, newest_of, older_of, newer_of}
+use Rattle.sb_uses.specs.Chains.{next, known, same_held, slot_of, there, newest_of, older_of, newer_of}
 use Rattle.sb_uses.specs.Entering.{IsEntered}
 use Rattle.sb_uses.proofs.Segments.{hit, miss}
 

@@ -1,16 +1,16 @@
 -- What linking in and taking out makes of all lists.
-use Rattle.std.proofs.Common.{◌≡◌, refl, sym, ap, ◌∙◌, subst, ℕ, suc, ◌+◌, ◌≤◌, Bool, true, false, ◌&&◌, Option, None, Some, List, [], ◌∷◌, length, cond, arith}
+use Rattle.std.proofs.Common.{◌≡◌, refl, sym, ap, ◌∙◌, subst, Bool, true, false, ◌&&◌, Option, None, Some, List, length, cond}
 use Rattle.ir_types.specs.declared.id.Id.{Id}
 use Rattle.ir_types.specs.declared.id.Use.{Use}
 use Rattle.ir_types.specs.Available.{same_id}
-use Rattle.ir_types.proofs.Among.{same_is, same_itself}
+use Rattle.ir_types.proofs.Among.{same_itself}
 use Rattle.vx_view.specs.Uses.{same_use, taken}
 use Rattle.sb_uses.specs.declared.chains.Chains.{Chains}
-use Rattle.sb_uses.specs.Chains.{next, prev, known, lists, same_held, slot_of, same_end}
-use Rattle.sb_uses.specs.Places.{has, stands, put, put_from}
+use Rattle.sb_uses.specs.Chains.{next, prev, known, lists, same_end}
+use Rattle.sb_uses.specs.Places.{has, stands, put}
 use Rattle.sb_uses.specs.Linking.{IsLinked, IsUnlinked}
 use Rattle.sb_uses.specs.Whole.{Apart, Seg, IsWhole}
-use Rattle.sb_uses.proofs.Segments.{false-true, none-some, seg-same, seg-known, walked, PutIn, put-in, TakenOut, take-out, taken-apart, put-apart, comes-back}
+use Rattle.sb_uses.proofs.Segments.{none-some, seg-same, seg-known, walked, PutIn, put-in, TakenOut, take-out, taken-apart, put-apart, comes-back}
 use Rattle.sb_uses.proofs.Fitting.{fits}
 
 own : {X : Type 0} (v : Id) (e : Bool) (x y : X) → cond (same_id v v && e) x y ≡ cond e x y

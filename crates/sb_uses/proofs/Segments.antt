@@ -1,13 +1,12 @@
 -- What linked slots say of a list: each names its neighbours. A slot that is taken out or put in keeps that.
-use Rattle.std.proofs.Common.{◌≡◌, refl, sym, ap, ◌∙◌, subst, ℕ, zero, suc, ◌+◌, ◌<◌, ◌≤◌, Bool, true, false, ◌&&◌, Option, None, Some, List, [], ◌∷◌, length, cond, nat_eq, arith}
+use Rattle.std.proofs.Common.{◌≡◌, refl, sym, ap, ◌∙◌, subst, ℕ, zero, suc, ◌≤◌, Bool, true, false, ◌&&◌, Option, None, Some, List, [], ◌∷◌, length, cond, nat_eq, arith}
 use Rattle.std.proofs.lemmas.Bool.Decides.{nat_tests}
-use Rattle.ir_types.specs.declared.id.Id.{Id}
 use Rattle.ir_types.specs.declared.id.Use.{Use}
 use Rattle.ir_types.specs.Available.{same_id}
 use Rattle.ir_types.proofs.Among.{same_is, same_itself}
 use Rattle.vx_view.specs.Uses.{same_use, taken}
 use Rattle.sb_uses.specs.Chains.{same_end, walk, first_then}
-use Rattle.sb_uses.specs.Places.{has, stands, put_from}
+use Rattle.sb_uses.specs.Places.{has, put_from}
 use Rattle.sb_uses.specs.Whole.{Apart, Seg}
 
 -- ---- tests

@@ -1,5 +1,5 @@
 -- What the slots of whole lists need and keep, step by step.
-use Rattle.std.proofs.Common.{◌≡◌, refl, sym, ap, ◌∙◌, subst, ℕ, Bool, true, false, Option, None, Some, IfSome, List, [], ◌∷◌, cond}
+use Rattle.std.proofs.Common.{◌≡◌, refl, sym, ap, ◌∙◌, subst, Bool, true, false, Option, None, Some, IfSome, List, [], ◌∷◌, cond}
 use Rattle.std.specs.HashMap.{get}
 use Rattle.ir_types.specs.declared.id.Id.{Id}
 use Rattle.ir_types.specs.declared.id.Use.{Use}
@@ -12,11 +12,11 @@ use Rattle.sb_uses.specs.declared.chains.Chains.{Chains}
 use Rattle.sb_uses.specs.declared.use_lists.Spot.{Spot}
 use Rattle.sb_uses.specs.Spots.{CanPutBack}
 use Rattle.sb_uses.specs.Chains.{next, prev, known, lists, same_held, slot_of, there, newest_of, older_of}
-use Rattle.sb_uses.specs.Places.{has, stands, put, put_from}
+use Rattle.sb_uses.specs.Places.{has, stands, put}
 use Rattle.sb_uses.specs.Linking.{IsLinked, IsUnlinked}
 use Rattle.sb_uses.specs.Entering.{IsEntered}
-use Rattle.sb_uses.specs.Whole.{Apart, Seg, IsWhole}
-use Rattle.sb_uses.proofs.Segments.{false-true, none-some, some-one, has-head, has-more, has-split, seg-known, seg-same, prev-next, taken-lacks, use-not, hit, miss}
+use Rattle.sb_uses.specs.Whole.{Seg, IsWhole}
+use Rattle.sb_uses.proofs.Segments.{false-true, none-some, some-one, has-more, has-split, seg-known, seg-same, prev-next, taken-lacks, use-not, hit, miss}
 use Rattle.sb_uses.proofs.Keeping.{whole, unlinked-list, linked-list, unlinked-others, linked-others, list-comes-back}
 
 -- ---- what is named is there

@@ -1,5 +1,5 @@
 -- A step of the walk along a list.
-use Rattle.std.proofs.Common.{◌≡◌, refl, sym, ap, ◌∙◌, ℕ, zero, suc, ◌-◌, ◌<◌, Option, None, Some, List, [], ◌∷◌, ◌++◌, arith}
+use Rattle.std.proofs.Common.{◌≡◌, refl, ap, ◌∙◌, ℕ, zero, suc, ◌-◌, ◌<◌, Option, None, Some, [], ◌∷◌, arith}
 use Rattle.ir_types.specs.declared.id.Use.{Use}
 use Rattle.sb_uses.specs.Chains.{walk, first_then}
 

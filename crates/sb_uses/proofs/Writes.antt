@@ -1,5 +1,5 @@
 -- What is written in one slot, as the neighbours of all slots.
-use Rattle.std.proofs.Common.{◌≡◌, refl, sym, ap, ◌∙◌, subst, ℕ, Bool, true, false, ◌&&◌, ◌==◌, Option, None, Some, IsSome, IfSome, cond, nat_eq, arith}
+use Rattle.std.proofs.Common.{◌≡◌, refl, sym, ap, ◌∙◌, subst, Bool, true, false, ◌&&◌, ◌==◌, Option, None, Some, IfSome, cond, arith}
 use Rattle.std.proofs.lemmas.Bool.Decides.{nat_tests}
 use Rattle.std.specs.HashMap.{get}
 use Rattle.ir_types.specs.declared.id.Id.{Id}
@@ -10,7 +10,7 @@ use Rattle.sb_uses.specs.declared.chains.Held.{Held}
 use Rattle.sb_uses.specs.declared.chains.Links.{Links}
 use Rattle.sb_uses.specs.declared.chains.Chains.{Chains}
 use Rattle.sb_uses.specs.Chains.{slot_of, same_held, next, known, there, older_of, newest_of}
-use Rattle.sb_uses.proofs.Segments.{false-true, and-left, and-right}
+use Rattle.sb_uses.proofs.Segments.{and-left, and-right}
 
 pub held-is : (a b : Held) → same_held a b ≡ true → a ≡ b
 held-is a b h =

@@ -1,7 +1,7 @@
 -- What slots name after one of them was linked in or taken out.
 use Rattle.std.specs.Prelude.{◌≡◌, cond, ◌&&◌}
 use Rattle.std.specs.declared.option.Option.{Option}
-use Rattle.std.specs.declared.option.Option.TheVariants.{None, Some}
+use Rattle.std.specs.declared.option.Option.TheVariants.{Some}
 use Rattle.ir_types.specs.declared.id.Id.{Id}
 use Rattle.ir_types.specs.declared.id.Use.{Use}
 use Rattle.ir_types.specs.Available.{same_id}

@@ -15,4 +15,3 @@ mod tests;
 mod use_lists;
 
 pub use use_lists::{Spot, UseLists};
-

@@ -1,5 +1,5 @@
 -- The list grows from none by one use and another.
-use Rattle.std.proofs.Common.{◌≡◌, ap, ◌∙◌, List, [], ◌∷◌}
+use Rattle.std.proofs.Common.{◌≡◌, ap, ◌∙◌, [], ◌∷◌}
 use Rattle.ir_types.specs.declared.id.Id.{Id}
 use Rattle.ir_types.specs.declared.id.Use.{Use}
 use Rattle.sb_uses.specs.Chains.{lists}

@@ -1,5 +1,5 @@
 -- A head that was not there stands before no use.
-use Rattle.std.proofs.Common.{rules, ◌≡◌, refl, None, Some}
+use Rattle.std.proofs.Common.{rules, ◌≡◌, refl, None}
 use Rattle.std.specs.HashMap.{get}
 use Rattle.ir_types.specs.Available.{same_id}
 use Rattle.ir_types.proofs.Among.{same_is}

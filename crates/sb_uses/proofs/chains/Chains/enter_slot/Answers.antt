@@ -1,5 +1,5 @@
 -- A slot that was not there has no neighbours.
-use Rattle.std.proofs.Common.{rules, ◌≡◌, refl, None, Some}
+use Rattle.std.proofs.Common.{rules, ◌≡◌, refl, None}
 use Rattle.std.specs.HashMap.{get}
 use Rattle.sb_uses.specs.Chains.{same_held, older_of, newer_of}
 use Rattle.sb_uses.proofs.Writes.{held-is}

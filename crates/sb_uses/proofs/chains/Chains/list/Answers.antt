@@ -1,5 +1,5 @@
 -- What was walked and what is left are the list.
-use Rattle.std.proofs.Common.{◌≡◌, sym, ap, ◌∙◌, List, [], ◌∷◌, ◌++◌, ◌-◌, Option, Some}
+use Rattle.std.proofs.Common.{sym, ap, ◌∙◌, List, [], ◌∷◌, ◌++◌, ◌-◌, Option, Some}
 use Rattle.std.proofs.lemmas.List.{append_assoc}
 use Rattle.ir_types.specs.declared.id.Use.{Use}
 use Rattle.sb_uses.specs.Chains.{next, walk}

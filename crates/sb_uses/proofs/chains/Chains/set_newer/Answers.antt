@@ -1,9 +1,9 @@
 -- Each slot that was there is there, and the older neighbour is the same.
 use Rattle.std.specs.HashMap.{get}
-use Rattle.sb_uses.specs.Chains.{same_held, slot_of}
+use Rattle.sb_uses.specs.Chains.{same_held}
 use Rattle.sb_uses.proofs.Writes.{there-kept, older-kept, known-kept, next-kept}
 use Rattle.std.proofs.Common.{◌≡◌, true, sym, ap, ◌∙◌, subst, Some, IfSome}
-use Rattle.sb_uses.specs.Chains.{there, known, next, older_of}
+use Rattle.sb_uses.specs.Chains.{there, known, older_of}
 use Rattle.sb_uses.proofs.chains.Chains.set_newer.Goals as goal
 
 pub returns-in-Some-clause-known : goal.returns-in-Some-clause-known

@@ -1,6 +1,6 @@
 -- Each slot that was there is there.
 use Rattle.std.specs.HashMap.{get}
-use Rattle.sb_uses.specs.Chains.{same_held, slot_of}
+use Rattle.sb_uses.specs.Chains.{same_held}
 use Rattle.sb_uses.proofs.Writes.{there-kept, known-kept}
 use Rattle.std.proofs.Common.{◌≡◌, true, sym, ap, ◌∙◌, subst}
 use Rattle.sb_uses.specs.Chains.{there, known}

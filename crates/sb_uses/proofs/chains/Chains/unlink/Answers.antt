@@ -1,5 +1,5 @@
 -- What is there stays there.
-use Rattle.std.proofs.Common.{◌≡◌, true, sym, ◌∙◌, subst, Some, IfSome}
+use Rattle.std.proofs.Common.{◌≡◌, true, sym, subst, Some, IfSome}
 use Rattle.sb_uses.specs.Chains.{known}
 use Rattle.sb_uses.proofs.Writes.{known-after}
 use Rattle.sb_uses.proofs.chains.Chains.unlink.Goals as goal

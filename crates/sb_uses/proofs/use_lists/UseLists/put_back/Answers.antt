@@ -27,6 +27,6 @@ pub returns-clause-now : goal.returns-clause-now
 returns-clause-now c =
     let can : CanPutBack c.self.inside.chains c.args.value c.args.used c.args.spot = subst (λ (s : Chains). CanPutBack s c.args.value c.args.used c.args.spot) (sym c.self.view_is) c.requires in
     λ x. subst
-        (λ (s : Chains). lists c.link.new.self x ≡ with_list c.args.value (put c.args.spot.newer c.args.used (lists s c.args.value)) (lists s) x)
-        c.self.view_is
-        ((put-in-list c.self.inside.chains c.link.new.self c.args.value c.args.spot.newer c.args.used c.self.invariant can.lacks can.place can.slot c.link.ensures.linked x).0)
+    (λ (s : Chains). lists c.link.new.self x ≡ with_list c.args.value (put c.args.spot.newer c.args.used (lists s c.args.value)) (lists s) x)
+    c.self.view_is
+    ((put-in-list c.self.inside.chains c.link.new.self c.args.value c.args.spot.newer c.args.used c.self.invariant can.lacks can.place can.slot c.link.ensures.linked x).0)

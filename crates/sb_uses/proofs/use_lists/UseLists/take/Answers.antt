@@ -1,6 +1,5 @@
 -- The neighbours name each other, so the list is without the use; the newer one tells where it comes back.
 use Rattle.std.proofs.Common.{◌≡◌, true, sym, subst, Some}
-use Rattle.ir_types.specs.declared.id.Id.{Id}
 use Rattle.vx_view.specs.Uses.{taken}
 use Rattle.vx_view.specs.UsesAfter.{with_list}
 use Rattle.sb_uses.specs.declared.chains.Chains.{Chains}
@@ -33,9 +32,9 @@ pub returns-clause-back : goal.returns-clause-back
 returns-clause-back c =
     let had : has c.args.used (lists c.self.inside.chains c.args.value) ≡ true = subst (λ (s : Chains). has c.args.used (lists s c.args.value) ≡ true) (sym c.self.view_is) c.requires in
     λ x. subst
-        (λ (s : Chains). with_list c.args.value (put c.newer-newer.result c.args.used (lists c.unlink.new.self c.args.value)) (lists c.unlink.new.self) x ≡ lists s x)
-        c.self.view_is
-        (all-back c.self.inside.chains c.unlink.new.self c.args.value c.newer-newer.result c.args.used (c.self.invariant c.args.value) had c.newer-newer.ensures (λ y. (taken-out c.self.inside.chains c.unlink.new.self c.args.value c.args.used c.self.invariant had c.unlink.ensures.unlinked y).0) x)
+    (λ (s : Chains). with_list c.args.value (put c.newer-newer.result c.args.used (lists c.unlink.new.self c.args.value)) (lists c.unlink.new.self) x ≡ lists s x)
+    c.self.view_is
+    (all-back c.self.inside.chains c.unlink.new.self c.args.value c.newer-newer.result c.args.used (c.self.invariant c.args.value) had c.newer-newer.ensures (λ y. (taken-out c.self.inside.chains c.unlink.new.self c.args.value c.args.used c.self.invariant had c.unlink.ensures.unlinked y).0) x)
 
 pub returns-clause-can : goal.returns-clause-can
 returns-clause-can c =
