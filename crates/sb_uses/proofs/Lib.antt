@@ -1,0 +1,7 @@
+pub mod Segments
+pub mod Writes
+pub mod Fitting
+pub mod Keeping
+pub mod Entered
+pub mod Walking
+pub mod Steps

@@ -1,0 +1,7 @@
+-- What use lists are.
+pub mod Chains
+pub mod Places
+pub mod Linking
+pub mod Entering
+pub mod Whole
+pub mod Spots
