@@ -4,3 +4,4 @@ pub mod Standings
 pub mod Steps
 pub mod Stores
 pub mod Nearness
+pub mod Growing

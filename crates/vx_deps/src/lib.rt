@@ -8,11 +8,14 @@
 #![tactic(auto)]
 
 mod extent;
+mod graph;
 mod laws;
 mod lookup;
+mod node;
 mod search;
 mod trail;
 
 pub use extent::Reach;
+pub use graph::Graph;
 pub use laws::{reaches_have_the_stores, reads_are_near};
 pub use search::reach;
