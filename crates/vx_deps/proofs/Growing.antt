@@ -1,29 +1,33 @@
 -- A graph that is right stays right when it grows, and what it keeps is so.
-use Rattle.std.proofs.Common.{◌≡◌, refl, sym, ap, ◌∙◌, subst, Bool, true, false, ◌||◌, cond, Option, None, Some, List, [], ◌∷◌, ◌++◌, map, reverse, append_assoc}
+use Rattle.std.proofs.Common.{◌≡◌, refl, sym, ap, ◌∙◌, subst, Bool, true, false, ◌&&◌, ◌||◌, cond, Option, None, Some, List, [], ◌∷◌, ◌++◌, map, reverse, append_assoc}
 use Rattle.std.proofs.lemmas.List.{reverse-append, map-append}
 use Rattle.ir_types.specs.declared.id.Id.{Id}
 use Rattle.ir_types.specs.declared.id.Place.{Place}
 use Rattle.ir_types.specs.declared.inst.Inst.{Inst}
 use Rattle.ir_types.specs.declared.module.Module.{Module}
 use Rattle.ir_types.specs.Available.{same_id}
-use Rattle.ir_types.specs.Formed.{IsFormed}
+use Rattle.std.specs.List.{list_any}
+use Rattle.ir_types.specs.declared.opd.Opd.{Opd}
+use Rattle.ir_types.specs.Formed.{IsFormed, is_alloca}
 use Rattle.ir_types.proofs.Among.{among, Once, same_is, same_itself}
 use Rattle.ir_types.specs.declared.func.Param.{Param}
 use Rattle.vx_view.specs.declared.answer.Answer.{Answer}
 use Rattle.vx_view.specs.declared.answer.Answer.TheVariants as says
 use Rattle.vx_view.specs.declared.question.Question.{Question}
 use Rattle.vx_view.specs.declared.question.Question.TheVariants as ask
-use Rattle.vx_view.specs.Answers.{funcs_of, param_of, find, found, after, id_of, beside, of_value, answer, Standing}
+use Rattle.vx_view.specs.Answers.{funcs_of, param_of, find, found, after, id_of, beside, of_value, answer, is_value, Standing}
 use Rattle.vx_view.specs.Blocks.{block_at}
-use Rattle.vx_view.specs.Conflicts.{access_of}
+use Rattle.vx_view.specs.Conflicts.{access_of, depends}
 use Rattle.vx_view.proofs.Blocks.{found_block, found_alone}
-use Rattle.vx_addr.specs.Effects.{effect_of}
+use Rattle.vx_addr.specs.Effects.{effect_of, effects_conflict}
+use Rattle.vx_addr.proofs.Comparing.{effects_are}
 use Rattle.vx_addr.specs.Walks.{Names, on_access}
 use Rattle.vx_view.proofs.Edits.{inst_ids}
-use Rattle.vx_deps.specs.Graphs.{Kept, as_node, insts_of, ids_of, IsKeptOf, AreKept, IsPart, IsRight, IsNodeOf, Precedes, on_node}
+use Rattle.vx_deps.specs.Graphs.{Kept, TellsOf, IsHeld, uses, kept_of, between, depends_on, as_node, insts_of, ids_of, IsKeptOf, AreKept, IsPart, IsRight, IsNodeOf, Precedes, on_node}
 use Rattle.vx_deps.specs.Reach.{id_answered}
 use Rattle.vx_deps.specs.declared.node.Node.{Node}
 use Rattle.vx_deps.proofs.Standings.{stood_in, block_once}
+use Rattle.vx_deps.proofs.Trailing.{apart}
 
 some_is : {A : Type 0} {a b : A} → Some a ≡ Some b → a ≡ b
 some_is e = cc
@@ -272,3 +276,83 @@ node_names m x place inst e q names =
       names.1,
       ap (λ u. on_node u names.0) w.1 ∙ ap (λ i. on_access s.block (access_of i) names.0) w.3 ∙ ap (λ l. on_access l (access_of inst) names.0) (sym b) ∙ names.2,
     )
+
+-- ---- what is kept is so
+
+uses_are : (x : Id) (os : List Opd) → uses x os ≡ list_any (is_value x) os
+uses_are x [] = refl
+uses_are x (o ∷ os) = ap (λ b. is_value x o || b) (uses_are x os)
+
+split_last : (k : Kept) (ks : List Kept) → Split (insts_of (k ∷ ks)) k.inst
+split_last k ks = record { before = insts_of ks; after = []; whole = reverse-append (k.inst ∷ []) (map (λ (n : Kept). n.inst) ks) }
+
+split_more : (k : Kept) (ks : List Kept) (i : Inst) → Split (insts_of ks) i → Split (insts_of (k ∷ ks)) i
+split_more k ks i s = record {
+  before = s.before;
+  after = s.after ++ k.inst ∷ [];
+  whole = reverse-append (k.inst ∷ []) (map (λ (n : Kept). n.inst) ks) ∙ ap (λ l. l ++ k.inst ∷ []) s.whole ∙ append_assoc s.before (i ∷ s.after) (k.inst ∷ []);
+}
+
+-- one that is held is an instruction of the block, and what is kept of it is so
+pub record Holds (insts : List Inst) (m : Module) (kept : List Kept) (x : Id) (k : Kept) : Type 0 where
+  pub split : Split (insts_of kept) k.inst
+  pub id : k.inst.id ≡ x
+  pub effect : k.effect ≡ effect_of m insts k.inst
+
+holds : (insts : List Inst) (m : Module) (kept : List Kept) (x : Id) (k : Kept) → AreKept insts m kept → kept_of x kept ≡ Some k → Holds insts m kept x k
+holds insts m [] x k are e = absurd (none_some e)
+holds insts m (j ∷ js) x k are e = by_test (same_id j.inst.id x) refl e (λ r. holds insts m js x k are.1 r)
+  where
+    by_test : (b : Bool) → same_id j.inst.id x ≡ b → cond b (Some j) (kept_of x js) ≡ Some k → (kept_of x js ≡ Some k → Holds insts m js x k) → Holds insts m (j ∷ js) x k
+    by_test true s r more =
+        subst (Holds insts m (j ∷ js) x) (some_is r) (record { split = split_last j js; id = same_is j.inst.id x s; effect = (are.0).effect })
+    by_test false s r more = let h = more r in record { split = split_more j js k.inst h.split; id = h.id; effect = h.effect }
+
+find_once : (before : List Inst) (i : Inst) (after : List Inst) → Once (inst_ids (before ++ i ∷ after)) → find i.id (before ++ i ∷ after) ≡ Some i
+find_once [] i after o = ap (λ b. cond b (Some i) (find i.id after)) (same_itself i.id)
+find_once (j ∷ js) i after o =
+    ap (λ b. cond b (Some j) (find i.id (js ++ i ∷ after))) (apart j.id i.id (inst_ids (js ++ i ∷ after)) o.0 (among_at js i after)) ∙ find_once js i after o.1
+
+module _ (m : Module) (formed : IsFormed m) (kept : List Kept) (p : IsPart m kept) where
+  abbrev whole_block : List Inst
+  whole_block = block_at m p.place
+
+  stands_there : (x : Id) (k : Kept) → Holds whole_block m kept x k → (s : Standing) × (found m x ≡ Some s) × (whole_block ≡ s.block) × (s.inst ≡ k.inst)
+  stands_there x k h =
+      let split = h.split in
+      let cut : whole_block ≡ (p.before ++ split.before) ++ k.inst ∷ (split.after ++ p.after) =
+      p.whole ∙ ap (λ l. p.before ++ (l ++ p.after)) split.whole ∙ ap (λ l. p.before ++ l) (append_assoc split.before (k.inst ∷ split.after) p.after)
+      ∙ sym (append_assoc p.before split.before (k.inst ∷ (split.after ++ p.after)))
+      in
+      let once = subst (λ l. Once (inst_ids l)) cut (block_once m formed p.place) in
+      let e : find x whole_block ≡ Some k.inst =
+      ap (λ y. find y whole_block) (sym h.id) ∙ ap (find k.inst.id) cut ∙ find_once (p.before ++ split.before) k.inst (split.after ++ p.after) once
+      in
+      let w = stood_in m formed p.place x k.inst e in
+      (w.0, w.1, w.2, some_is (sym (found_block x w.0 m w.1).1 ∙ ap (find x) (sym w.2) ∙ e))
+
+  depends_is : (x y : Id) (a b : Kept) → Holds whole_block m kept x a → Holds whole_block m kept y b → depends_on b a ≡ depends m whole_block b.inst a.inst
+  depends_is x y a b h g =
+      ap (λ r. r || effects_conflict a.effect b.effect || is_alloca a.inst.op && is_alloca b.inst.op) (uses_are a.inst.id b.inst.opds)
+      ∙ ap (λ r. list_any (is_value a.inst.id) b.inst.opds || r || is_alloca a.inst.op && is_alloca b.inst.op)
+      (ap (λ e. effects_conflict e b.effect) h.effect ∙ ap (effects_conflict (effect_of m whole_block a.inst)) g.effect ∙ effects_are m whole_block a.inst b.inst)
+
+  pub tells : (x y : Id) (a b : Kept) → kept_of x kept ≡ Some a → kept_of y kept ≡ Some b → TellsOf m kept x y
+  tells x y a b e f =
+      let h = holds whole_block m kept x a p.are e in
+      let g = holds whole_block m kept y b p.are f in
+      let s = stands_there x a h in
+      let t = stands_there y b g in
+      record {
+        earlier = s.0;
+        later = t.0;
+        earlier_found = s.1;
+        later_found = t.1;
+        one_block = sym s.2 ∙ t.2;
+        same = ap (λ u. between u (kept_of y kept)) e ∙ ap (between (Some a)) f ∙ depends_is x y a b h g
+            ∙ ap (λ l. depends m l b.inst a.inst) s.2 ∙ ap (λ i. depends m (s.0).block i a.inst) (sym t.3) ∙ ap (depends m (s.0).block (t.0).inst) (sym s.3);
+      }
+
+pub told : (m : Module) (kept : List Kept) → IsFormed m → IsRight m kept → (x y : Id) → IsHeld kept x → IsHeld kept y → TellsOf m kept x y
+told m [] formed right x y h g = absurd (none_some h.1)
+told m (k ∷ ks) formed right x y h g = tells m formed (k ∷ ks) right x y h.0 g.0 h.1 g.1

@@ -15,7 +15,7 @@ use Rattle.vx_view.specs.declared.question.Question.{Question}
 use Rattle.vx_view.specs.declared.question.Question.TheVariants as ask
 use Rattle.vx_view.specs.Answers.{found, after, is_value, Standing}
 use Rattle.vx_view.specs.Blocks.{block_at}
-use Rattle.vx_view.specs.Conflicts.{access_of}
+use Rattle.vx_view.specs.Conflicts.{access_of, depends}
 use Rattle.vx_addr.specs.Effects.{Effect, effect_of, effects_conflict}
 use Rattle.vx_addr.specs.Parts.{as_effect}
 use Rattle.vx_addr.specs.Walks.{Names, on_access}
@@ -87,6 +87,19 @@ pub record IsPart (m : Module) (kept : List Kept) : Type 0 where
 abbrev pub IsRight : Module → List Kept → Type 0
 IsRight m [] = ⊤
 IsRight m (k ∷ ks) = IsPart m (k ∷ ks)
+
+-- an id is that of an instruction that is held
+abbrev pub IsHeld : List Kept → Id → Type 0
+IsHeld kept x = (k : Kept) × (kept_of x kept ≡ Some k)
+
+-- both are instructions of one block of the module, and what is kept between them is whether the second depends on the first there
+pub record TellsOf (m : Module) (kept : List Kept) (x y : Id) : Type 0 where
+  pub earlier : Standing
+  pub later : Standing
+  pub earlier_found : found m x ≡ Some earlier
+  pub later_found : found m y ≡ Some later
+  pub one_block : earlier.block ≡ later.block
+  pub same : keeps kept x y ≡ depends m earlier.block later.inst earlier.inst
 
 -- ---- growing
 
