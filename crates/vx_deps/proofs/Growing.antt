@@ -29,7 +29,7 @@ use Rattle.vx_deps.specs.declared.node.Node.{Node}
 use Rattle.vx_deps.proofs.Standings.{stood_in, block_once}
 use Rattle.vx_deps.proofs.Trailing.{apart}
 
-some_is : {A : Type 0} {a b : A} → Some a ≡ Some b → a ≡ b
+pub some_is : {A : Type 0} {a b : A} → Some a ≡ Some b → a ≡ b
 some_is e = cc
 
 none_some : {A : Type 0} {a : A} → None ≡ Some a → ⊥
@@ -90,7 +90,7 @@ found_at (j ∷ js) i after = by_test (same_id j.id i.id) (found_at js i after)
     by_test true r = (j, refl)
     by_test false r = r
 
-among_at : (before : List Inst) (i : Inst) (after : List Inst) → among (inst_ids (before ++ i ∷ after)) i.id ≡ true
+pub among_at : (before : List Inst) (i : Inst) (after : List Inst) → among (inst_ids (before ++ i ∷ after)) i.id ≡ true
 among_at [] i after = ap (λ b. b || among (inst_ids after) i.id) (same_itself i.id)
 among_at (j ∷ js) i after = by_test (same_id j.id i.id) (among_at js i after)
   where
@@ -144,7 +144,7 @@ held_more nodes n = map-append as_node nodes (n ∷ [])
 
 -- ---- one more
 
-ids_are : (kept : List Kept) → ids_of kept ≡ map (λ (i : Inst). i.id) (insts_of kept)
+pub ids_are : (kept : List Kept) → ids_of kept ≡ map (λ (i : Inst). i.id) (insts_of kept)
 ids_are [] = refl
 ids_are (k ∷ ks) =
     reverse-append (k.inst.id ∷ []) (map (λ (n : Kept). n.inst.id) ks) ∙ ap (λ l. l ++ k.inst.id ∷ []) (ids_are ks)
@@ -308,7 +308,7 @@ holds insts m (j ∷ js) x k are e = by_test (same_id j.inst.id x) refl e (λ r.
         subst (Holds insts m (j ∷ js) x) (some_is r) (record { split = split_last j js; id = same_is j.inst.id x s; effect = (are.0).effect })
     by_test false s r more = let h = more r in record { split = split_more j js k.inst h.split; id = h.id; effect = h.effect }
 
-find_once : (before : List Inst) (i : Inst) (after : List Inst) → Once (inst_ids (before ++ i ∷ after)) → find i.id (before ++ i ∷ after) ≡ Some i
+pub find_once : (before : List Inst) (i : Inst) (after : List Inst) → Once (inst_ids (before ++ i ∷ after)) → find i.id (before ++ i ∷ after) ≡ Some i
 find_once [] i after o = ap (λ b. cond b (Some i) (find i.id after)) (same_itself i.id)
 find_once (j ∷ js) i after o =
     ap (λ b. cond b (Some j) (find i.id (js ++ i ∷ after))) (apart j.id i.id (inst_ids (js ++ i ∷ after)) o.0 (among_at js i after)) ∙ find_once js i after o.1

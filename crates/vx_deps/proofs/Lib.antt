@@ -5,3 +5,4 @@ pub mod Steps
 pub mod Stores
 pub mod Nearness
 pub mod Growing
+pub mod Orders

@@ -2,3 +2,4 @@
 pub mod Reach
 pub mod Trails
 pub mod Graphs
+pub mod Orders

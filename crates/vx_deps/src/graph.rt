@@ -37,12 +37,7 @@ impl Graph {
     }
 
     /// Puts the instruction just before the first that is held at the front.
-    pub fn grow<V: View>(
-        &mut self,
-        alloc: Global,
-        view: &mut V,
-        id: Id,
-    ) -> Result<(), OutOfMemory>
+    pub fn grow<V: View>(&mut self, alloc: Global, view: &mut V, id: Id) -> Result<(), OutOfMemory>
         requires askable { IsAskable (V.seen view.old) }
         requires there { is_answered (answer (V.seen view.old).contents.own (ask.Inst id)) ≡ true }
         requires next { Precedes (id_answered (answer (V.seen view.old).contents.own (ask.Next id))) (ids_of (held self.old)) }

@@ -17,5 +17,7 @@ mod trail;
 
 pub use extent::Reach;
 pub use graph::Graph;
-pub use laws::{graphs_tell_dependences, reaches_have_the_stores, reads_are_near};
+pub use laws::{
+    graphs_have_the_order, graphs_tell_dependences, reaches_have_the_stores, reads_are_near,
+};
 pub use search::reach;

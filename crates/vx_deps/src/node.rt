@@ -97,8 +97,7 @@ fn uses(id: Id, opds: &[Opd]) -> bool
 pub(crate) fn depends_on(later: &Node, earlier: &Node) -> bool
     ensures { result ≡ depends_on (as_node later.now) (as_node earlier.now) }
 {
-    uses(earlier.inst.id, later.inst.opds.as_slice()) || effects_conflict(
-        &earlier.effect,
-        &later.effect,
-    ) || is_alloca(&earlier.inst.op) && is_alloca(&later.inst.op)
+    uses(earlier.inst.id, later.inst.opds.as_slice())
+        || effects_conflict(&earlier.effect, &later.effect)
+        || is_alloca(&earlier.inst.op) && is_alloca(&later.inst.op)
 }
