@@ -1,5 +1,5 @@
 -- What the code keeps of an address, read as the definitions of addresses have it, and what of an instruction lets it be followed.
-use Rattle.std.specs.Prelude.{Bool, cond, Option, None, Some, ⊤}
+use Rattle.std.specs.Prelude.{Bool, cond, Option, None, Some, option_map, ⊤}
 use Rattle.std.specs.List.{All}
 use Rattle.ir_types.specs.declared.id.Place.{Place}
 use Rattle.ir_types.specs.declared.opd.Opd.{Opd}
@@ -13,7 +13,10 @@ use Rattle.vx_view.specs.declared.answer.Answer.TheVariants as says
 use Rattle.vx_view.specs.Addresses as view
 use Rattle.vx_view.specs.Conflicts as view_of
 use Rattle.vx_view.specs.Answers.{Standing}
+use Rattle.vx_addr.specs.Effects as kept
 use Rattle.vx_addr.specs.declared.address.Form.{Form}
+use Rattle.vx_addr.specs.declared.effect.Touch.{Touch}
+use Rattle.vx_addr.specs.declared.effect.Effect.{Effect}
 use Rattle.vx_addr.specs.declared.offset.Offset.{Offset}
 use Rattle.vx_addr.specs.declared.sum.Summand.{Summand}
 use Rattle.vx_addr.specs.declared.sum.Summand.TheVariants.{Number, Poison, Value, Other}
@@ -84,3 +87,11 @@ IsStepped _ = ⊤
 pub record IsPlain (inst : Inst) : Type 0 where
   pub opds : All IsOpd inst.opds
   pub step : IsStepped inst.op
+
+-- ---- what is kept of an instruction
+
+abbrev pub as_touch : Touch → kept.Touch
+as_touch t = record { form = as_form t.form; kind = as_kind t.kind; size = t.size; writes = t.writes }
+
+abbrev pub as_effect : Effect → kept.Effect
+as_effect e = record { call = e.call; minds = e.minds_calls; touch = option_map as_touch e.touch }

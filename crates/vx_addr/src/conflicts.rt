@@ -91,7 +91,7 @@ fn is_division(op: BinOp) -> bool
 }
 
 /// Whether an operation is a call.
-fn is_call(op: &Op) -> bool
+pub(crate) fn is_call(op: &Op) -> bool
     ensures { result ≡ is_call op.now }
 {
     match op {
@@ -101,7 +101,7 @@ fn is_call(op: &Op) -> bool
 }
 
 /// Whether an operation keeps its order with calls.
-fn minds_calls(op: &Op) -> bool
+pub(crate) fn minds_calls(op: &Op) -> bool
     ensures { result ≡ minds_calls op.now }
 {
     match op {
@@ -160,7 +160,7 @@ fn pointers_apart<V: View>(
 }
 
 /// Whether two roots are one value, one global, or poison.
-fn same_root(a: &Opd, b: &Opd) -> bool
+pub(crate) fn same_root(a: &Opd, b: &Opd) -> bool
     ensures { result ≡ same_root a.now b.now }
 {
     match (a, b) {
@@ -215,7 +215,7 @@ fn distance(first: i64, second: i64) -> i64
 }
 
 /// Whether two accesses from one root have one symbol and lie far enough from each other.
-fn are_far(a: &Form, first: u16, b: &Form, second: u16) -> bool
+pub(crate) fn are_far(a: &Form, first: u16, b: &Form, second: u16) -> bool
     ensures { result ≡ (same_symbol a.now.symbol b.now.symbol && is_past first second (int_wrap w64 (b.now.constant -ℤ a.now.constant))) }
 {
     same_symbol(a.symbol, b.symbol) && is_past(first, second, distance(a.constant, b.constant))

@@ -4,3 +4,5 @@ pub mod Standings
 pub mod Steps
 pub mod Stores
 pub mod Nearness
+pub mod Growing
+pub mod Orders

@@ -29,7 +29,7 @@ Ends x i last found insts =
     ((found ≡ last) × (up_to x insts ≡ i ∷ []))
     ⊎ ((y : Id) × (found ≡ Some y) × (up_to x insts ≡ up_to y insts ++ i ∷ []) × (among (inst_ids insts) y ≡ true))
 
-apart : (x y : Id) (ys : List Id) → among ys x ≡ false → among ys y ≡ true → same_id x y ≡ false
+pub apart : (x y : Id) (ys : List Id) → among ys x ≡ false → among ys y ≡ true → same_id x y ≡ false
 apart x y ys e h = by_test (same_id x y) refl
   where
     by_test : (b : Bool) → same_id x y ≡ b → b ≡ false

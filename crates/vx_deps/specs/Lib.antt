@@ -1,3 +1,5 @@
 -- The instructions that end at a region's stores.
 pub mod Reach
 pub mod Trails
+pub mod Graphs
+pub mod Orders

@@ -1,18 +1,23 @@
-//! Which instructions of a block end at a region's stores, over a view.
+//! Which instructions of a block end at a region's stores, and which of them depend on which, over a view.
 //!
-//! The entry point is `reach`. It asks a view for instructions one after another, back from a store, and what it gives is the
-//! definition's value in every formed module that the view then stands for. `specs/Reach.antt` says which questions it asks: for the
-//! stores, and for the at most 256 instructions that end at one. Want of memory is the only failure; the view may then have more
-//! notes, and is otherwise as before. A call takes 256 questions for a store at most, and one store is enough where the first that is
-//! handed in is the last of the block.
+//! The entry points are `reach` and `Graph`. What they give is the definition's value in every formed module that the view then stands
+//! for. `reach` asks for instructions one after another, back from a store: for the stores, and for the at most 256 instructions that
+//! end at one. A `Graph` grows by one instruction at the front; it asks once for what that does to memory and keeps it, and then tells
+//! dependences without a question, in every module for which it is right. `specs/Reach.antt` and `specs/Graphs.antt` say what is asked
+//! and what is kept. Want of memory is the only failure; the view may then have more notes, and is otherwise as before.
 #![tactic(auto)]
 
 mod extent;
+mod graph;
 mod laws;
 mod lookup;
+mod node;
 mod search;
 mod trail;
 
 pub use extent::Reach;
-pub use laws::{reaches_have_the_stores, reads_are_near};
+pub use graph::Graph;
+pub use laws::{
+    graphs_have_the_order, graphs_tell_dependences, reaches_have_the_stores, reads_are_near,
+};
 pub use search::reach;
