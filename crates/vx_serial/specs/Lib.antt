@@ -1,6 +1,9 @@
 -- What the optimizer writes.
 pub mod Window
 pub mod Near
+pub mod Regions
+pub mod Legal
+pub mod Tree
 pub mod Pair
 pub mod PairScan
 pub mod PairPlaces
