@@ -15,7 +15,7 @@ use Rattle.ir_types.specs.declared.ty.Elem.TheVariants.{One}
 use Rattle.ir_types.specs.declared.opd.Opd.{Opd}
 use Rattle.ir_types.specs.declared.opd.Opd.TheVariants.{Val, Lit, Sym}
 use Rattle.ir_types.specs.declared.op.Op.{Op}
-use Rattle.ir_types.specs.declared.op.Op.TheVariants.{Bin, Icmp, Cast, Select, Extract, Gep, Load, Store}
+use Rattle.ir_types.specs.declared.op.Op.TheVariants.{Bin, Icmp, Cast, Select, Extract, Gep, Load, Store, Ret}
 use Rattle.ir_types.specs.declared.inst.Inst.{Inst}
 use Rattle.ir_types.specs.declared.func.Param.{Param}
 use Rattle.ir_types.specs.declared.module.Item.TheVariants.{Func as FuncItem}
@@ -281,24 +281,28 @@ plain = record { nuw = false; nsw = false; exact = false; disjoint = false }
 abbrev sum : ℕ → BinOp → ℕ → ℕ → Inst
 sum k op a b = line k (Int 32) (Bin op plain) (value a ∷ value b ∷ [])
 
--- %2 = add %0, %1;  %3 = sub %0, %1;  %4 = add %1, %0;  stores of %2 through %8 and of %4 through a pointer 4 bytes past it
-abbrev pub sums : List Inst
-sums =
-    sum 2 Add 0 1 ∷ sum 3 Sub 0 1 ∷ sum 4 Add 1 0 ∷ line 5 Ptr (Gep (One (Int 8)) false) (value 8 ∷ number 4 ∷ [])
-    ∷ line 6 (Int 32) (Store 4) (value 2 ∷ value 8 ∷ []) ∷ line 7 (Int 32) (Store 4) (value 4 ∷ value 5 ∷ []) ∷ []
+-- %2 = add %0, %1;  %3 = sub of a value and %1;  %4 = add %1, %0;  stores of %2 through %8 and of %4 through a pointer 4 bytes past it
+abbrev pub sums_of : ℕ → List Inst
+sums_of a =
+    sum 2 Add 0 1 ∷ sum 3 Sub a 1 ∷ sum 4 Add 1 0 ∷ line 5 Ptr (Gep (One (Int 8)) false) (value 8 ∷ number 4 ∷ [])
+    ∷ line 6 (Int 32) (Store 4) (value 2 ∷ value 8 ∷ []) ∷ line 7 (Int 32) (Store 4) (value 4 ∷ value 5 ∷ []) ∷ line 9 Void Ret [] ∷ []
+
+abbrev sums : List Inst
+sums = sums_of 0
 
 abbrev param : ℕ → Ty → Param
 param k t = record { id = id k; name = None; ty = t; attrs = []; noalias = false }
 
-abbrev pub adding : Module
-adding = record {
+-- a function of one block
+abbrev pub adding : List Inst → Module
+adding insts = record {
   items = FuncItem (record {
     before = [];
     ret = Void;
     name = codes "f";
     params = param 0 (Int 32) ∷ param 1 (Int 32) ∷ param 8 Ptr ∷ [];
     after = [];
-    blocks = record { name = None; insts = sums } ∷ [];
+    blocks = record { name = None; insts = insts } ∷ [];
   }) ∷ [];
   globals = [];
   big_endian_line = None;
@@ -308,7 +312,7 @@ abbrev stored : Node
 stored = record { lanes = value 6 ∷ value 7 ∷ []; how = Widen; slots = [] }
 
 abbrev had : List Node → ℕ → ℕ → How
-had tree a b = legal adding sums (id 7) tree (value a ∷ value b ∷ [])
+had tree a b = legal (adding sums) sums (id 7) tree (value a ∷ value b ∷ [])
 
 -- the two stores are widened, and then the two sums of which they store
 stores_first : had [] 6 7 ≡ Widen
@@ -329,7 +333,7 @@ repeated = refl
 outside : had (stored ∷ []) 2 0 ≡ Pack Outside
 outside = refl
 
-constants : legal adding sums (id 7) (stored ∷ []) (number 1 ∷ number 2 ∷ []) ≡ Pack Constants
+constants : legal (adding sums) sums (id 7) (stored ∷ []) (number 1 ∷ number 2 ∷ []) ≡ Pack Constants
 constants = refl
 
 again : had (stored ∷ []) 6 7 ≡ Reuse 0

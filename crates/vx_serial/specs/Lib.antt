@@ -4,6 +4,9 @@ pub mod Near
 pub mod Regions
 pub mod Legal
 pub mod Tree
+pub mod Rewriting
+pub mod Changing
+pub mod Serial
 pub mod Pair
 pub mod PairScan
 pub mod PairPlaces

@@ -17,7 +17,7 @@ use Rattle.ir_types.specs.Available.{same_id}
 use Rattle.vx_view.specs.Addresses.{value, block_of}
 use Rattle.vx_view.specs.Answers.{found}
 use Rattle.vx_serial.specs.Window.{id}
-use Rattle.vx_serial.specs.Legal.{Node, How, Widen, Pack, Outside, insts_of, legal, sums, adding}
+use Rattle.vx_serial.specs.Legal.{Node, How, Widen, Pack, Outside, insts_of, legal, sums_of, adding}
 
 -- ---- slots
 
@@ -107,6 +107,6 @@ of_sums =
     ∷ node (value 0 ∷ value 1 ∷ []) (Pack Outside)
     ∷ node (value 1 ∷ value 0 ∷ []) (Pack Outside) ∷ []
 
-tree_of_sums : tree_of adding (id 6 ∷ id 7 ∷ []) ≡ of_sums
+tree_of_sums : tree_of (adding (sums_of 0)) (id 6 ∷ id 7 ∷ []) ≡ of_sums
 unfolding int_wrap
 tree_of_sums = refl
