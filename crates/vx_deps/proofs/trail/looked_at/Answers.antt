@@ -1,6 +1,6 @@
 use Rattle.std.proofs.Common.{◌≡◌, ◌∙◌, sym, inl, inr}
 use Rattle.vx_view.specs.declared.question.Question.TheVariants as ask
-use Rattle.vx_view.proofs.Asking.{asks_then}
+use Rattle.vx_view.proofs.Asking.{asks_then, asks_more}
 use Rattle.vx_deps.specs.Reach.{LooksAt}
 use Rattle.vx_deps.proofs.Steps.{Backs, looked, looks}
 use Rattle.vx_deps.proofs.trail.looked_at.Goals as goal
@@ -23,3 +23,13 @@ returns-clause-asks g c =
     asks_then (λ m q. q ≡ ask.Inst c.args.store) (Backs c.args.store) (λ m. LooksAt m c.args.store) (g.V.View.seen c.args.view.now) (g.V.View.seen c.is_there.new.view) (g.V.View.seen c.back.new.view)
     c.in_ok-is_there.ensures.asks more (λ m t f q e. inl e)
     (λ m t f q b. inr (looks m f c.args.store (sym (c.in_ok-is_there.ensures.is m (more.narrows m t) f) ∙ c.if-not-branch.false) q b))
+
+pub returns-in_err-is_there-clause-asks : goal.returns-in_err-is_there-clause-asks
+returns-in_err-is_there-clause-asks g c =
+    asks_more (λ m q. q ≡ ask.Inst c.args.store) (λ m. LooksAt m c.args.store) (g.V.View.seen c.args.view.now) (g.V.View.seen c.is_there.new.view)
+    c.in_err-is_there.ensures.asks (λ m t f q e. inl e)
+
+pub returns-then-not-branch-clause-asks : goal.returns-then-not-branch-clause-asks
+returns-then-not-branch-clause-asks g c =
+    asks_more (λ m q. q ≡ ask.Inst c.args.store) (λ m. LooksAt m c.args.store) (g.V.View.seen c.args.view.now) (g.V.View.seen c.is_there.new.view)
+    c.in_ok-is_there.ensures.asks (λ m t f q e. inl e)
