@@ -32,12 +32,12 @@ use Rattle.vx_serial.specs.Window.{order_in, joined}
 use Rattle.rf_order.specs.Rows.{Instead}
 use Rattle.rf_order.specs.Swaps.{CallsKeepObjects}
 use Rattle.rf_order.specs.Steps.{uses}
-use Rattle.rf_order.specs.Windows.{AreOnce, ids_of as ids_of_insts, AreBundles}
+use Rattle.vx_serial.specs.Bundles.{AreOnce, ids_of as ids_of_insts, AreBundles}
 use Rattle.rf_order.specs.Ready.{Known, next, IsStatement, MayRunAll, is_known, IsReady}
 use Rattle.rf_order.specs.Blocks.{ArePhis, NoPhis, IsEntered, IsCut, BlocksRefine}
 use Rattle.rf_order.proofs.Shapes.{step_ready}
 use Rattle.rf_order.proofs.Refined.{NoEnds, insts_append, windows}
-use Rattle.rf_order.proofs.Tests.{and_left, and_right, neither, not_true, or_case, or_first, or_left, or_right, or_second, true_false}
+use Rattle.vx_serial.proofs.Tests.{and_left, and_right, neither, not_true, or_case, or_first, or_left, or_right, or_second, true_false}
 
 abbrev Ids : List Inst → List Id
 Ids is = map (λ (i : Inst). i.id) is

@@ -30,7 +30,7 @@ use Rattle.vx_view.specs.Conflicts.{depends}
 use Rattle.vx_serial.specs.Window.{order_in, joined}
 use Rattle.rf_order.specs.Rows.{Instead, Reordered}
 use Rattle.rf_order.specs.Swaps.{CallsKeepObjects}
-use Rattle.rf_order.specs.Windows.{AreOnce, ids_of, AreBundles}
+use Rattle.vx_serial.specs.Bundles.{AreOnce, ids_of, AreBundles}
 use Rattle.rf_order.specs.Blocks.{ArePhis, NoPhis, IsEntered, IsCut, run_phis, with_groups, CameFrom}
 use Rattle.rf_order.specs.Functions.{with_block, TiesKeep, FunctionsRefine, OutcomesRefine}
 use Rattle.rf_order.proofs.Orders.{instead_chain, instead_then}
@@ -41,7 +41,7 @@ use Rattle.rf_order.proofs.Entered.{phis_entered}
 use Rattle.rf_order.proofs.Exits.{exits_entered}
 use Rattle.rf_order.proofs.Leading.{exits_lead}
 use Rattle.rf_order.proofs.Starts.{starts_entered}
-use Rattle.rf_order.proofs.Tests.{neither, or_left, or_right, true_false}
+use Rattle.vx_serial.proofs.Tests.{neither, or_left, or_right, true_false}
 
 -- ---- types
 

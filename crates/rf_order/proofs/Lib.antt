@@ -1,10 +1,8 @@
 -- Why laws of reordering hold.
-pub mod Tests
 pub mod Lists
 pub mod Effects
 pub mod Swaps
 pub mod Numbers
-pub mod Partitions
 pub mod Schedules
 pub mod Windows
 pub mod Orders

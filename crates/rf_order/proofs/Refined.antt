@@ -31,7 +31,7 @@ use Rattle.vx_serial.specs.Window.{joined}
 use Rattle.rf_order.specs.Rows.{steps, Instead, Reordered}
 use Rattle.rf_order.specs.Swaps.{CallsKeepObjects, touch_of, AreNamed, Stays}
 use Rattle.rf_order.specs.Steps.{uses, acts_in, AreFree, Passes, BothPlain, OverCall, CallOver}
-use Rattle.rf_order.specs.Windows.{AreOnce, ids_of}
+use Rattle.vx_serial.specs.Bundles.{AreOnce, ids_of}
 use Rattle.rf_order.specs.Ready.{Known, next, MayRun, MayRunAll, IsReady, AccessesKeepApart, WindowsRefine}
 use Rattle.rf_order.proofs.Effects.{changes, reads, quiet_is, read_is, reads_kept, TouchSame}
 use Rattle.rf_order.proofs.Swaps.{effects_pass, pair_swaps}
@@ -39,7 +39,7 @@ use Rattle.rf_order.proofs.Orders.{instead_then, reorder}
 use Rattle.rf_order.proofs.Shapes.{run_shapes, named_of, row, step_ready}
 use Rattle.rf_order.proofs.Apart.{keep_apart}
 use Rattle.rf_order.proofs.Windows.{orders_reordered}
-use Rattle.rf_order.proofs.Tests.{neither, not_true, or_first, or_left, or_right, or_second, true_false}
+use Rattle.vx_serial.proofs.Tests.{neither, not_true, or_first, or_left, or_right, or_second, true_false}
 
 -- ---- what a dependence is
 

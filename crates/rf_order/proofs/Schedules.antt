@@ -11,8 +11,10 @@ use Rattle.vx_order.proofs.Placing.{both, head_or_more, at_head, in_more}
 use Rattle.vx_order.proofs.Holding.{range_has}
 use Rattle.vx_serial.specs.Window.{joined}
 use Rattle.rf_order.specs.Rows.{Reordered}
-use Rattle.rf_order.proofs.Numbers.{same_number, number_itself, has_append, has_front, has_back, has_part, Distinct, distinct_left, distinct_right, distinct_apart, distinct_both, fits, fills, ascends_distinct, also, Topological, topological_more, reordered}
-use Rattle.rf_order.proofs.Tests.{not_true, or_first, or_second, true_false}
+use Rattle.vx_serial.proofs.Grouped.{distinct_group, filter_passes, group_of, has_least, in_joined, long_joined, owner_holds, owner_unique, position_is}
+use Rattle.vx_serial.proofs.Numbers.{same_number, number_itself, has_front, has_back, has_part, Distinct, distinct_both, fits, fills, ascends_distinct}
+use Rattle.vx_serial.proofs.Tests.{not_true, or_first, or_second, true_false}
+use Rattle.rf_order.proofs.Numbers.{also, Topological, topological_more, reordered}
 
 -- ---- places one after another
 
@@ -72,88 +74,6 @@ chosen_among nodes links (w ∷ ws) placed c x h = by_first (head_or_more w x ws
   by_first : (w ≡ x) ⊎ (has ws x ≡ true) → (has ws x ≡ true → has nodes x ≡ true) → has nodes x ≡ true
   by_first (inl e) more = ap (has nodes) (sym e) ∙ c.1
   by_first (inr k) more = more k
-
--- ---- groups
-
-min_is : (p q : ℕ) → (min p q ≡ p) ⊎ (min p q ≡ q)
-min_is p q = grind arith
-
-has_least_from : (p : ℕ) (ps : List ℕ) → has (p ∷ ps) (least_from p ps) ≡ true
-has_least_from p [] = at_head p p [] refl
-has_least_from p (q ∷ qs) = elim (head_or_more (min p q) (least_from (min p q) qs) qs (has_least_from (min p q) qs)) [
-  | inl e ↦ elim (min_is p q) [
-    | inl s ↦ at_head p (least_from (min p q) qs) (q ∷ qs) (sym s ∙ e)
-    | inr s ↦ in_more p (least_from (min p q) qs) (q ∷ qs) (at_head q (least_from (min p q) qs) qs (sym s ∙ e))
-  ]
-  | inr more ↦ in_more p (least_from (min p q) qs) (q ∷ qs) (in_more q (least_from (min p q) qs) qs more)
-]
-
--- a group that holds a place holds its least
-has_least : (group : List ℕ) (x : ℕ) → has group x ≡ true → has group (least group) ≡ true
-has_least [] x h = absurd cc
-has_least (p ∷ ps) x h = has_least_from p ps
-
-owner_first : (g : List ℕ) (gs : List (List ℕ)) (x : ℕ) → owner_of (g ∷ gs) x ≡ cond (has g x) 0 (suc (owner_of gs x))
-owner_first g gs x = by_test (has g x) refl where
-  by_test : (b : Bool) → has g x ≡ b → owner_of (g ∷ gs) x ≡ cond b 0 (suc (owner_of gs x))
-  by_test true e = rw e refl
-  by_test false e = (let more : 1 + owner_of gs x ≡ suc (owner_of gs x) = omega arith in rw e more)
-
--- the group of a number
-abbrev pub group_of : List (List ℕ) → ℕ → List ℕ
-group_of groups v = get_or groups (owner_of groups v) []
-
-pub owner_holds : (groups : List (List ℕ)) (x : ℕ) → has (joined groups) x ≡ true → has (group_of groups x) x ≡ true
-owner_holds [] x h = absurd cc
-owner_holds (g ∷ gs) x h = by_test (has g x) refl (λ k. owner_holds gs x k) where
-  by_test : (b : Bool) → has g x ≡ b → (has (joined gs) x ≡ true → has (group_of gs x) x ≡ true) → has (group_of (g ∷ gs) x) x ≡ true
-  by_test true e more = ap (λ k. has (get_or (g ∷ gs) k []) x) (owner_first g gs x ∙ ap (λ b. cond b 0 (suc (owner_of gs x))) e) ∙ e
-  by_test false e more =
-      ap (λ k. has (get_or (g ∷ gs) k []) x) (owner_first g gs x ∙ ap (λ b. cond b 0 (suc (owner_of gs x))) e)
-      ∙ more (sym (ap (λ b. b || has (joined gs) x) e) ∙ sym (has_append g (joined gs) x) ∙ h)
-
-pub in_joined : (groups : List (List ℕ)) (k x : ℕ) → has (get_or groups k []) x ≡ true → has (joined groups) x ≡ true
-in_joined [] k x h = absurd cc
-in_joined (g ∷ gs) zero x h = has_front g (joined gs) x h
-in_joined (g ∷ gs) (suc k) x h = has_back g (joined gs) x (in_joined gs k x h)
-
-pub owner_unique : (groups : List (List ℕ)) (k x : ℕ) → Distinct (joined groups) → has (get_or groups k []) x ≡ true → owner_of groups x ≡ k
-owner_unique [] k x d h = absurd cc
-owner_unique (g ∷ gs) zero x d h = owner_first g gs x ∙ ap (λ b. cond b 0 (suc (owner_of gs x))) h
-owner_unique (g ∷ gs) (suc k) x d h =
-    owner_first g gs x ∙ ap (λ b. cond b 0 (suc (owner_of gs x))) (not_true (has g x) (λ e. true_false (sym (in_joined gs k x h) ∙ distinct_apart g (joined gs) x d e)))
-    ∙ ap suc (owner_unique gs k x (distinct_right g (joined gs) d) h)
-
-distinct_group : (groups : List (List ℕ)) (k : ℕ) → Distinct (joined groups) → Distinct (get_or groups k [])
-distinct_group [] k d = tt
-distinct_group (g ∷ gs) zero d = distinct_left g (joined gs) d
-distinct_group (g ∷ gs) (suc k) d = distinct_group gs k (distinct_right g (joined gs) d)
-
-least_found : (groups : List (List ℕ)) (k : ℕ) → least_of (slice_get groups k) ≡ least (get_or groups k [])
-least_found [] k = refl
-least_found (g ∷ gs) zero = refl
-least_found (g ∷ gs) (suc k) = least_found gs k
-
--- a position is told by the owner
-position_is : (groups : List (List ℕ)) (p : ℕ) → position_of groups p ≡ least (group_of groups p)
-position_is groups p = ap least_of (find_at (λ group. has group p) groups) ∙ least_found groups (owner_of groups p)
-
-long_joined : (groups : List (List ℕ)) → length (joined groups) ≡ size groups
-long_joined [] = refl
-long_joined (g ∷ gs) =
-    let e : size (g ∷ gs) ≡ length g + size gs = sum_by-cons length g gs in
-    let long : length (g ++ joined gs) ≡ length g + length (joined gs) = length-append g (joined gs) in
-    let rest = long_joined gs in omega arith
-
-filter_passes : (p : ℕ → Bool) (xs : List ℕ) (v : ℕ) → has (filter p xs) v ≡ true → p v ≡ true
-filter_passes p [] v h = absurd cc
-filter_passes p (x ∷ xs) v h = by_test (p x) refl h (λ k. filter_passes p xs v k) where
-  by_test : (b : Bool) → p x ≡ b → has (cond b (x ∷ filter p xs) (filter p xs)) v ≡ true → (has (filter p xs) v ≡ true → p v ≡ true) → p v ≡ true
-  by_test true e h more = by_first (head_or_more x v (filter p xs) h) where
-    by_first : (x ≡ v) ⊎ (has (filter p xs) v ≡ true) → p v ≡ true
-    by_first (inl s) = ap p (sym s) ∙ e
-    by_first (inr k) = more k
-  by_test false e h more = more h
 
 -- ---- edges
 

@@ -22,7 +22,7 @@ use Rattle.vx_view.specs.Conflicts.{kind_of}
 use Rattle.vx_serial.specs.Window.{order_in, joined}
 use Rattle.rf_order.specs.Rows.{Instead}
 use Rattle.rf_order.specs.Swaps.{CallsKeepObjects}
-use Rattle.rf_order.specs.Windows.{AreBundles}
+use Rattle.vx_serial.specs.Bundles.{AreBundles}
 use Rattle.rf_order.specs.Ready.{has_kind, NamesOne, is_known, RootsApart}
 
 -- phis alone, or none

@@ -19,7 +19,7 @@ use Rattle.ir_model.specs.Shapes.{CallsKeepShapes}
 use Rattle.vx_serial.specs.Window.{order_in}
 use Rattle.rf_order.specs.Rows.{Instead}
 use Rattle.rf_order.specs.Swaps.{CallsKeepObjects}
-use Rattle.rf_order.specs.Windows.{AreBundles}
+use Rattle.vx_serial.specs.Bundles.{AreBundles}
 use Rattle.rf_order.specs.Blocks.{IsCut, with_groups}
 
 abbrev pub with_block : Func → ℕ → Block → Func

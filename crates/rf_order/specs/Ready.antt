@@ -30,7 +30,7 @@ use Rattle.vx_serial.specs.Window.{order_in, joined}
 use Rattle.rf_order.specs.Rows.{steps, Instead, Reordered}
 use Rattle.rf_order.specs.Swaps.{CallsKeepObjects, touch_of, KeepApart}
 use Rattle.rf_order.specs.Steps.{uses}
-use Rattle.rf_order.specs.Windows.{AreBundles}
+use Rattle.vx_serial.specs.Bundles.{AreBundles}
 
 pub record Known : Type 0 where
   pub values : Id → Bool

@@ -7,7 +7,7 @@ ghost use Rattle.rf_order.specs.Blocks.{BlocksRefine, ExitsAreEntered, ExitsLead
 ghost use Rattle.rf_order.specs.Functions.{FunctionsRefine, ModulesRefine, OutcomesRefine};
 ghost use Rattle.rf_order.specs.Ready.{AccessesKeepApart, NeighboursSwap, RowsRefine, StepsKeepReady, WindowsRefine};
 ghost use Rattle.rf_order.specs.Steps.{StepsSwap};
-ghost use Rattle.rf_order.specs.Windows.{GroupsPartition, OrdersReorder};
+ghost use Rattle.rf_order.specs.Windows.{OrdersReorder};
 
 /// Two neighbouring operations whose accesses are apart may be done in the other order.
 pub fn effects_swap()
@@ -18,11 +18,6 @@ pub fn effects_swap()
 /// stays what it is whatever the call does.
 pub fn steps_swap()
     ensures { StepsSwap }
-{}
-
-/// The groups of bundles of a window take each of its places once, as the schedule asks.
-pub fn groups_partition()
-    ensures { GroupsPartition }
 {}
 
 /// Where a window has an order, its instructions come in it with each behind all that it depends on.

@@ -1,4 +1,9 @@
--- Lemmas on what the optimizer writes.
+-- Lemmas on what the optimizer writes, and on windows of bundles.
+pub mod Tests
+pub mod Numbers
+pub mod Grouped
+pub mod Places
+pub mod Partitions
 pub mod Scan
 pub mod Start
 pub mod Least

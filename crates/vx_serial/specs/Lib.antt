@@ -1,5 +1,6 @@
 -- What the optimizer writes.
 pub mod Window
+pub mod Bundles
 pub mod Near
 pub mod Regions
 pub mod Legal

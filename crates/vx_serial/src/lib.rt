@@ -4,8 +4,10 @@
 //! memory is the only failure.
 #![tactic(auto)]
 
+mod laws;
 mod pairing;
 
+pub use laws::groups_partition;
 pub use pairing::{pair, pair_is_least};
 
 #[cfg(test)]

@@ -10,11 +10,11 @@ use Rattle.ir_types.specs.declared.inst.Inst.{Inst}
 use Rattle.vx_order.specs.Groups.{has, owner_of, size, IsPartition}
 use Rattle.vx_order.proofs.Placing.{at_head, in_more}
 use Rattle.vx_serial.specs.Window.{is_member, place_of, singles, groups_in, joined}
-use Rattle.rf_order.specs.Windows.{AreOnce, ids_of, AreBundles, GroupsPartition}
-use Rattle.rf_order.proofs.Numbers.{fits, Distinct, ascends_distinct}
-use Rattle.rf_order.proofs.Schedules.{owner_holds, owner_unique, in_joined}
-use Rattle.rf_order.proofs.Windows.{places_from, places_ascend, places_all, places_long, groups_distinct, groups_cover}
-use Rattle.rf_order.proofs.Tests.{true_false}
+use Rattle.vx_serial.specs.Bundles.{AreOnce, ids_of, AreBundles, GroupsPartition}
+use Rattle.vx_serial.proofs.Grouped.{owner_holds, owner_unique, in_joined}
+use Rattle.vx_serial.proofs.Numbers.{fits, Distinct, ascends_distinct}
+use Rattle.vx_serial.proofs.Places.{places_from, places_ascend, places_all, places_long, groups_distinct, groups_cover}
+use Rattle.vx_serial.proofs.Tests.{true_false}
 
 size_joined : (groups : List (List ℕ)) → size groups ≡ length (joined groups)
 size_joined [] = refl
