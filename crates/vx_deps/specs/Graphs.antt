@@ -125,7 +125,7 @@ Precedes successor (x ∷ xs) = successor ≡ Some x
 
 -- ---- worked examples: a load and a store that uses it
 
-abbrev touching : Inst → Kept
+abbrev pub touching : Inst → Kept
 touching i = record { inst = i; effect = record { call = false; minds = true; touch = None } }
 
 used : keeps (touching (store 4 3 0) ∷ touching (load 3 1) ∷ []) (id 3) (id 4) ≡ true

@@ -2,4 +2,6 @@
 pub mod Reach
 pub mod Trails
 pub mod Graphs
+pub mod Rows
 pub mod Orders
+pub mod Cycles

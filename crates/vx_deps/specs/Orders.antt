@@ -53,9 +53,13 @@ ids_at ids (p ∷ ps) = with_id (slice_get ids p) (ids_at ids ps)
 abbrev pub order_in : Keeps → List Id → List (List Id) → Option (List (List Id))
 order_in keeps ids bundles = option_map (map (λ g. ids_at ids (get_or (groups_in bundles ids) g []))) (order_of (groups_in bundles ids) (edges_in keeps 0 ids))
 
--- the order of the window of bundles, which runs from the first member to the last that is held
+-- the ids of the window of bundles, which runs from the first member to the last that is held
+abbrev pub window_ids : List Kept → List (List Id) → List Id
+window_ids kept bundles = from_member bundles (ids_of kept)
+
+-- its order
 abbrev pub order : List Kept → List (List Id) → Option (List (List Id))
-order kept bundles = order_in (keeps kept) (from_member bundles (ids_of kept)) bundles
+order kept bundles = order_in (keeps kept) (window_ids kept bundles) bundles
 
 -- all members are held
 abbrev pub HoldMembers : List Kept → List (List Id) → Type 0
@@ -72,7 +76,7 @@ pub record IsWindowOrder (m : Module) (last : Id) (kept : List Kept) (bundles : 
 
 -- ---- worked examples: of the ids 0, 1 and 2 the first and the last are a bundle
 
-abbrev links : List (ℕ × ℕ) → Keeps
+abbrev pub links : List (ℕ × ℕ) → Keeps
 links es a b = list_any (λ e. same_id a (id e.0) && same_id b (id e.1)) es
 
 abbrev order_of_three : List (ℕ × ℕ) → Option (List (List Id))

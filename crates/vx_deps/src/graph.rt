@@ -4,19 +4,25 @@
 //! `depends` asks nothing. Contracts see what it holds, and for which modules that is right. Want of memory is the only failure, and
 //! leaves the graph as it was.
 
-ghost use Rattle.std.specs.Prelude.{◌≡◌, ◌∷◌, true, [], OnOk, OnErr, option_map};
+ghost use Rattle.std.specs.Prelude.{◌≡◌, ◌∷◌, true, [], Some, IfOk, IfErr, OnOk, OnErr, option_map};
 ghost use Rattle.ir_types.specs.declared.module.Module.{Module};
 ghost use Rattle.ir_types.specs.Formed.{IsFormed};
 ghost use Rattle.vx_view.specs.declared.question.Question.TheVariants as ask;
 ghost use Rattle.vx_view.specs.Answers.{answer};
 ghost use Rattle.vx_view.specs.Views.{StandsFor, IsAskable, Asks};
 ghost use Rattle.vx_deps.specs.Reach.{is_answered, id_answered};
+ghost use Rattle.vx_serial.specs.Bundles.{AreOnce};
 ghost use Rattle.vx_deps.specs.Graphs.{held, ids_of, keeps, kept_of, as_node, IsRight, Precedes, NamesNode};
+ghost use Rattle.vx_deps.specs.Orders.{order, window_ids};
+ghost use Rattle.vx_deps.specs.Cycles.{AreBundlesOf, Refuses};
 
 use crate::node::{Node, depends_on, node_of};
+use crate::refusal::{Bundles, OrderRefusal};
+use crate::window::{edges_between, from_member, groups_in, ids_of, named};
 use ir_types::{Id, OutOfMemory};
 use std::alloc::Global;
 use vx_list::{Equal, Seq};
+use vx_order::{OrderRefusal as ScheduleRefusal, schedule};
 use vx_view::View;
 
 /// Instructions of a block, one after another.
@@ -72,6 +78,28 @@ impl Graph {
         match (self.node(earlier), self.node(later)) {
             (Some(earlier), Some(later)) => depends_on(later, earlier),
             _ => false,
+        }
+    }
+    /// The order of the window of bundles, which runs from the first member of any to the last instruction that is held: its groups, each
+    /// a bundle or an instruction that is no member, in the order in which the window may run. No instruction is held twice.
+    ///
+    /// Refusals: `NoOrder` exactly where there is no order, unless memory is wanting first; `OutOfMemory`.
+    pub fn order(&self, alloc: Global, bundles: &Bundles) -> Result<Bundles, OrderRefusal>
+        requires once { AreOnce (ids_of (held self.now)) }
+        requires bundles { AreBundlesOf (ids_of (held self.now)) bundles.now }
+        ensures order { IfOk result (λ groups. order (held self.now) bundles.now ≡ Some groups) }
+        ensures refused { IfErr result (Refuses (keeps (held self.now)) (window_ids (held self.now) bundles.now) bundles.now) }
+    {
+        let window = from_member(self.nodes.as_slice(), bundles.as_slice());
+        let ids = ids_of(alloc, window)?;
+        let groups = groups_in(alloc, ids.as_slice(), bundles.as_slice())?;
+        let edges = edges_between(alloc, window)?;
+        match schedule(alloc, &groups, edges.as_slice()) {
+            Ok(order) => Ok(named(alloc, ids.as_slice(), &groups, order.as_slice())?),
+            Err(ScheduleRefusal::NoOrder { cycle }) => Err(OrderRefusal::NoOrder {
+                cycle: named(alloc, ids.as_slice(), &groups, cycle.as_slice())?,
+            }),
+            Err(ScheduleRefusal::OutOfMemory) => Err(OrderRefusal::OutOfMemory),
         }
     }
 }

@@ -12,12 +12,15 @@ mod graph;
 mod laws;
 mod lookup;
 mod node;
+mod refusal;
 mod search;
 mod trail;
+mod window;
 
 pub use extent::Reach;
 pub use graph::Graph;
 pub use laws::{
     graphs_have_the_order, graphs_tell_dependences, reaches_have_the_stores, reads_are_near,
 };
+pub use refusal::{Bundles, OrderRefusal};
 pub use search::reach;
