@@ -6,3 +6,6 @@ pub mod Stores
 pub mod Nearness
 pub mod Growing
 pub mod Orders
+pub mod Naming
+pub mod Rowing
+pub mod Grouping

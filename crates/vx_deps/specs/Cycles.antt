@@ -53,6 +53,6 @@ around = links ((0, 1) ∷ (1, 2) ∷ [])
 
 two_groups : IsCycle around (id 0 ∷ id 1 ∷ id 2 ∷ []) ((id 0 ∷ id 2 ∷ []) ∷ (id 1 ∷ []) ∷ [])
 two_groups = (
-  record { earlier = id 0; later = id 1; in_first = refl; in_second = refl; before = lit<; kept = refl },
-  record { earlier = id 1; later = id 2; in_first = refl; in_second = refl; before = lit<; kept = refl },
+  record { earlier = id 0; later = id 1; in_first = refl; in_second = refl; before = lit< tt; kept = refl },
+  record { earlier = id 1; later = id 2; in_first = refl; in_second = refl; before = lit< tt; kept = refl },
 )

@@ -3,7 +3,7 @@
 //! It runs from the first member of any bundle to the last that is held. Places count its instructions from 0 in block order. Want of
 //! memory is the only failure.
 
-ghost use Rattle.std.specs.Prelude.{◌≡◌, ◌<◌, ◌^◌, ◌++◌, List, IfOk, OnOk, length, map, get_or, []};
+ghost use Rattle.std.specs.Prelude.{◌≡◌, ◌+◌, ◌<◌, ◌^◌, ◌++◌, IfOk, OnOk, length, map, slice_get, get_or, []};
 ghost use Rattle.std.specs.List.{list_any};
 ghost use Rattle.ir_types.specs.Available.{same_id};
 ghost use Rattle.vx_serial.specs.Window.{is_member};
@@ -51,7 +51,7 @@ pub(crate) fn from_member<'a>(nodes: &'a [Node], bundles: &[Ids]) -> &'a [Node]
     ensures { row (map as_node result.now) ≡ from_member bundles.now (row (map as_node nodes.now)) }
 {
     let mut left = nodes;
-    while let [later @ .., first] = left {
+    while let Some((first, later)) = left.split_last() {
         if is_member(bundles, first.inst.id) {
             return left;
         }
@@ -182,6 +182,16 @@ pub(crate) fn edges_between(
     Ok(edges)
 }
 
+/// The id of the instruction at a place, if there is one.
+fn id_at(ids: &[Id], place: u32) -> Option<Id>
+    ensures { result ≡ slice_get ids.now place }
+{
+    match ids.get(place as usize) {
+        Some(id) => Some(*id),
+        None => None,
+    }
+}
+
 /// The ids of the instructions at places, in the order of these.
 fn ids_at(alloc: Global, ids: &[Id], places: &[u32]) -> Result<Ids, AllocError>
     ensures { IfOk result (λ there. there ≡ ids_at ids.now places.now) }
@@ -189,8 +199,8 @@ fn ids_at(alloc: Global, ids: &[Id], places: &[u32]) -> Result<Ids, AllocError>
     let mut there = Seq::with_capacity(alloc, places.len())?;
     let mut left = places;
     while let [first, more @ ..] = left {
-        if let Some(id) = ids.get(*first as usize) {
-            there.push(*id)?;
+        if let Some(id) = id_at(ids, *first) {
+            there.push(id)?;
         }
         left = more;
     }

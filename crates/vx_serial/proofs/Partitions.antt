@@ -61,7 +61,7 @@ module _ (insts : List Inst) (bundles : List (List Id)) (once : AreOnce (ids_of 
   cover : (x : ℕ) → has (joined Groups) x ≡ nat_lt x (length insts)
   cover = groups_cover insts bundles once are
 
-  many : size Groups ≡ length insts
+  pub many : size Groups ≡ length insts
   many =
       let some : length (joined Groups) ≤ length (places_from 0 insts) = fits (joined Groups) (places_from 0 insts) distinct (λ x h. places_all insts x ∙ sym (cover x) ∙ h) in
       let all : length (places_from 0 insts) ≤ length (joined Groups) =

@@ -95,7 +95,7 @@ any_append (z ∷ xs) ys x = ap (λ b. same_id x z || b) (any_append xs ys x) �
   or_assoc true b c = refl
   or_assoc false b c = refl
 
-member_joined : (bundles : List (List Id)) (x : Id) → is_member bundles x ≡ list_any (same_id x) (joined bundles)
+pub member_joined : (bundles : List (List Id)) (x : Id) → is_member bundles x ≡ list_any (same_id x) (joined bundles)
 member_joined [] x = refl
 member_joined (b ∷ bs) x = ap (λ t. list_any (same_id x) b || t) (member_joined bs x) ∙ sym (any_append b (joined bs) x)
 
