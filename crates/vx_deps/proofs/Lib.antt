@@ -9,3 +9,5 @@ pub mod Orders
 pub mod Naming
 pub mod Rowing
 pub mod Grouping
+pub mod Cycling
+pub mod Posing
