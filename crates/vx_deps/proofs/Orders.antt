@@ -5,12 +5,16 @@ use Rattle.ir_types.specs.declared.id.Id.{Id}
 use Rattle.ir_types.specs.declared.inst.Inst.{Inst}
 use Rattle.ir_types.specs.declared.module.Module.{Module}
 use Rattle.ir_types.specs.Available.{same_id}
-use Rattle.ir_types.proofs.Among.{among, among_left, among_right, Once, same_itself}
+use Rattle.std.specs.List.{list_any}
+use Rattle.ir_types.proofs.Among.{among, among_left, among_right, Once, same_itself, swapped}
+use Rattle.vx_serial.specs.Bundles.{AreOnce}
+use Rattle.vx_serial.proofs.Tests.{neither}
 use Rattle.ir_types.specs.Formed.{IsFormed}
 use Rattle.vx_view.specs.Answers.{find, found, Standing}
 use Rattle.vx_view.specs.Blocks.{block_at}
 use Rattle.vx_view.proofs.Blocks.{found_block}
-use Rattle.vx_view.proofs.Edits.{inst_ids}
+use Rattle.vx_view.proofs.Edits.{inst_ids, once_left, once_right}
+use Rattle.vx_deps.specs.Graphs as graph
 use Rattle.vx_deps.specs.Graphs.{Kept, insts_of, kept_of, keeps, IsPart, IsRight, IsHeld}
 use Rattle.vx_deps.proofs.Standings.{stood_in, block_once}
 use Rattle.vx_deps.proofs.Trailing.{apart}
@@ -20,7 +24,7 @@ use Rattle.vx_view.specs.Conflicts.{depends}
 use Rattle.vx_serial.specs.Window as window
 use Rattle.vx_serial.specs.Window.{is_member}
 use Rattle.vx_deps.specs.Reach.{ids_of}
-use Rattle.vx_deps.specs.Orders.{Keeps, from_member, place_of, singles, groups_in, edges_from, edges_in, with_id, ids_at, order_in, ids_in, HoldMembers, IsWindowOrder}
+use Rattle.vx_deps.specs.Orders.{Keeps, from_member, place_of, singles, groups_in, edges_from, edges_in, with_id, ids_at, order_in, ids_in, HaveMembers, IsWindowOrder}
 
 -- ---- what is kept of each two
 
@@ -199,19 +203,33 @@ held_by (k ∷ ks) x h = by_test (same_id k.inst.id x) refl (λ r. held_by ks x 
     by_test true e more = (k, refl)
     by_test false e more = more (others e)
 
-among_held : (kept : List Kept) (x : Id) → IsHeld kept x → among (ids_of (insts_of kept)) x ≡ true
-among_held [] x h = absurd (none_some h.1)
+pub among_any : (xs : List Id) (x : Id) → list_any (same_id x) xs ≡ true → among xs x ≡ true
+among_any [] x h = h
+among_any (y ∷ ys) x h = by_test (same_id x y) (swapped y x) h (λ r. among_any ys x r)
   where
-    none_some : {A : Type 0} {a : A} → None ≡ Some a → ⊥
-    none_some e = cc
-among_held (k ∷ ks) x h =
-    ap (λ l. among (ids_of l) x) (kept_last k ks) ∙ ap (λ l. among l x) (map-append (λ (i : Inst). i.id) (insts_of ks) (k.inst ∷ []))
-    ∙ by_test (same_id k.inst.id x) refl h.1 (λ r. among_held ks x (h.0, r))
-  where
-    by_test : (b : Bool) → same_id k.inst.id x ≡ b → cond b (Some k) (kept_of x ks) ≡ Some h.0 → (kept_of x ks ≡ Some h.0 → among (ids_of (insts_of ks)) x ≡ true) →
-        among (ids_of (insts_of ks) ++ k.inst.id ∷ []) x ≡ true
-    by_test true e r more = among_right (ids_of (insts_of ks)) (k.inst.id ∷ []) x (ap (λ b. b || false) e)
-    by_test false e r more = among_left (ids_of (insts_of ks)) (k.inst.id ∷ []) x (more r)
+    by_test : (b : Bool) → same_id y x ≡ b → (b || list_any (same_id x) ys) ≡ true → (list_any (same_id x) ys ≡ true → among ys x ≡ true) → (same_id y x || among ys x) ≡ true
+    by_test true e r more = ap (λ b. b || among ys x) e
+    by_test false e r more = ap (λ b. b || among ys x) e ∙ more r
+
+not_among : (xs : List Id) (x : Id) → among xs x ≡ false → list_any (same_id x) xs ≡ false
+not_among [] x h = h
+not_among (y ∷ ys) x h =
+    neither (same_id x y) (list_any (same_id x) ys) (swapped x y ∙ or_false_left (same_id y x) (among ys x) h) (not_among ys x (or_false_right (same_id y x) (among ys x) h))
+
+once_of : (xs : List Id) → Once xs → AreOnce xs
+once_of [] o = tt
+once_of (x ∷ xs) o = (not_among xs x o.0, once_of xs o.1)
+
+-- a graph that is right holds each instruction once
+pub right_once : (m : Module) → IsFormed m → (kept : List Kept) → IsRight m kept → AreOnce (graph.ids_of kept)
+right_once m formed [] right = tt
+right_once m formed (k ∷ ks) p =
+    let kept : List Kept = k ∷ ks in
+    let whole : Once (inst_ids (p.before ++ (insts_of kept ++ p.after))) = subst (λ l. Once (inst_ids l)) p.whole (block_once m formed p.place) in
+    let rest : Once (inst_ids (insts_of kept ++ p.after)) =
+    once_right (inst_ids p.before) (inst_ids (insts_of kept ++ p.after)) (subst Once (map-append (λ (i : Inst). i.id) p.before (insts_of kept ++ p.after)) whole)
+    in
+    subst AreOnce (sym (ids_are kept)) (once_of (inst_ids (insts_of kept)) (once_left (inst_ids (insts_of kept)) (inst_ids p.after) (subst Once (map-append (λ (i : Inst). i.id) (insts_of kept) p.after) rest)))
 
 module _ (m : Module) (formed : IsFormed m) (kept : List Kept) (p : IsPart m kept) (right : IsRight m kept) where
   abbrev block : List Inst
@@ -255,7 +273,7 @@ module _ (m : Module) (formed : IsFormed m) (kept : List Kept) (p : IsPart m kep
       let next : insts_of kept ≡ (front ++ i ∷ []) ++ is = e ∙ sym (append_assoc front (i ∷ []) is) in
       (kept_from_one i (stands front i is e) (front ++ i ∷ []) is next, kept_all (front ++ i ∷ []) is next)
 
-  no_member : (bundles : List (List Id)) → HoldMembers kept bundles → (before : List Inst) → Once (inst_ids (before ++ (insts_of kept ++ p.after))) → HasNoMember bundles before
+  no_member : (bundles : List (List Id)) → HaveMembers (graph.ids_of kept) bundles → (before : List Inst) → Once (inst_ids (before ++ (insts_of kept ++ p.after))) → HasNoMember bundles before
   no_member bundles members [] o = tt
   no_member bundles members (i ∷ is) o = (by_test (is_member bundles i.id) refl, no_member bundles members is o.1)
     where
@@ -271,7 +289,7 @@ module _ (m : Module) (formed : IsFormed m) (kept : List Kept) (p : IsPart m kep
           absurd (differ (sym o.0 ∙ ap (λ l. among l i.id) (map-append (λ (v : Inst). v.id) is rest)
           ∙ among_right (inst_ids is) (inst_ids rest) i.id
           (ap (λ l. among l i.id) (map-append (λ (v : Inst). v.id) (insts_of kept) p.after)
-          ∙ among_left (inst_ids (insts_of kept)) (inst_ids p.after) i.id (among_held kept i.id (members i.id e)))))
+          ∙ among_left (inst_ids (insts_of kept)) (inst_ids p.after) i.id (among_any (inst_ids (insts_of kept)) i.id (ap (list_any (same_id i.id)) (sym (ids_are kept)) ∙ members i.id e)))))
 
 lacks_last : (xs : List Inst) (z : Inst) (ys : List Inst) → Once (inst_ids (xs ++ z ∷ ys)) → among (ids_of xs) z.id ≡ false
 lacks_last [] z ys o = refl
@@ -279,7 +297,7 @@ lacks_last (x ∷ xs) z ys o =
     ap (λ b. b || among (ids_of xs) z.id) (apart x.id z.id (inst_ids (xs ++ z ∷ ys)) o.0 (among_at xs z ys)) ∙ lacks_last xs z ys o.1
 
 -- in a module for which a graph is right, its order is that of the window
-pub window_order : (m : Module) → IsFormed m → (k : Kept) (ks : List Kept) → IsRight m (k ∷ ks) → (bundles : List (List Id)) → HoldMembers (k ∷ ks) bundles → IsWindowOrder m k.inst.id (k ∷ ks) bundles
+pub window_order : (m : Module) → IsFormed m → (k : Kept) (ks : List Kept) → IsRight m (k ∷ ks) → (bundles : List (List Id)) → HaveMembers (graph.ids_of (k ∷ ks)) bundles → IsWindowOrder m k.inst.id (k ∷ ks) bundles
 window_order m formed k ks p bundles members =
     let kept : List Kept = k ∷ ks in
     let first : List Inst = insts_of ks in

@@ -11,12 +11,12 @@ use Rattle.vx_serial.specs.Window.{is_member, joined, id}
 use Rattle.vx_serial.specs.Bundles.{AreOnce}
 use Rattle.vx_deps.specs.declared.refusal.OrderRefusal.{OrderRefusal}
 use Rattle.vx_deps.specs.declared.refusal.OrderRefusal.TheVariants.{NoOrder, OutOfMemory}
-use Rattle.vx_deps.specs.Orders.{Keeps, place_of, order_in, links}
+use Rattle.vx_deps.specs.Orders.{Keeps, HaveMembers, place_of, order_in, links}
 
 -- bundles that stand among some ids: none is empty, all their members are there, and none is twice
 pub record AreBundlesOf (ids : List Id) (bundles : List (List Id)) : Type 0 where
   pub filled : All (λ bundle. 0 < length bundle) bundles
-  pub members : (x : Id) → is_member bundles x ≡ true → list_any (same_id x) ids ≡ true
+  pub members : HaveMembers ids bundles
   pub once : AreOnce (joined bundles)
 
 -- a member of the second group stands later than one of the first, and depends on it

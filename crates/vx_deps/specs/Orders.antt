@@ -11,7 +11,7 @@ use Rattle.vx_order.specs.Order.{order_of}
 use Rattle.vx_view.specs.Answers.{found, Standing}
 use Rattle.vx_serial.specs.Window as window
 use Rattle.vx_serial.specs.Window.{is_member, id}
-use Rattle.vx_deps.specs.Graphs.{Kept, keeps, ids_of, IsHeld}
+use Rattle.vx_deps.specs.Graphs.{Kept, keeps, ids_of}
 
 -- whether the second, which stands later, depends on the first
 abbrev pub Keeps : Type 0
@@ -61,9 +61,9 @@ window_ids kept bundles = from_member bundles (ids_of kept)
 abbrev pub order : List Kept → List (List Id) → Option (List (List Id))
 order kept bundles = order_in (keeps kept) (window_ids kept bundles) bundles
 
--- all members are held
-abbrev pub HoldMembers : List Kept → List (List Id) → Type 0
-HoldMembers kept bundles = (x : Id) → is_member bundles x ≡ true → IsHeld kept x
+-- all members are among these
+abbrev pub HaveMembers : List Id → List (List Id) → Type 0
+HaveMembers ids bundles = (x : Id) → is_member bundles x ≡ true → list_any (same_id x) ids ≡ true
 
 abbrev pub ids_in : List (List Inst) → List (List Id)
 ids_in groups = map (map (λ (i : Inst). i.id)) groups

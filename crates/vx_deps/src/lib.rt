@@ -20,7 +20,7 @@ mod window;
 pub use extent::Reach;
 pub use graph::Graph;
 pub use laws::{
-    graphs_have_the_order, graphs_tell_dependences, reaches_have_the_stores, reads_are_near,
+    graphs_have_the_order, graphs_hold_each_once, graphs_tell_dependences, reaches_have_the_stores, reads_are_near,
 };
 pub use refusal::{Bundles, OrderRefusal};
 pub use search::reach;
