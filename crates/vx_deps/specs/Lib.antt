@@ -5,3 +5,4 @@ pub mod Graphs
 pub mod Rows
 pub mod Orders
 pub mod Cycles
+pub mod Ordered

@@ -12,6 +12,7 @@ mod graph;
 mod laws;
 mod lookup;
 mod node;
+mod ordering;
 mod refusal;
 mod search;
 mod trail;
@@ -22,5 +23,6 @@ pub use graph::Graph;
 pub use laws::{
     graphs_have_the_order, graphs_hold_each_once, graphs_tell_dependences, reaches_have_the_stores, reads_are_near,
 };
+pub use ordering::order;
 pub use refusal::{Bundles, OrderRefusal};
 pub use search::reach;

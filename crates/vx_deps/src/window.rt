@@ -33,7 +33,7 @@ fn has(ids: &[Id], id: Id) -> bool
 }
 
 /// Whether an id is a member of one of these bundles.
-fn is_member(bundles: &[Ids], id: Id) -> bool
+pub(crate) fn is_member(bundles: &[Ids], id: Id) -> bool
     ensures { result ≡ is_member bundles.now id }
 {
     let mut left = bundles;
