@@ -11,3 +11,5 @@ pub mod Rowing
 pub mod Grouping
 pub mod Cycling
 pub mod Posing
+pub mod Following
+pub mod Telling
