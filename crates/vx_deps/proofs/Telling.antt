@@ -1,5 +1,5 @@
 -- What a graph that holds a window says of the window in each module for which it is right.
-use Rattle.std.proofs.Common.{◌≡◌, refl, sym, ap, ◌∙◌, subst, ℕ, ◌<◌, Bool, true, false, ◌||◌, cond, Option, None, Some, List, [], ◌∷◌, ◌++◌, map, reverse, length, arith}
+use Rattle.std.proofs.Common.{◌≡◌, refl, sym, ap, ◌∙◌, subst, ℕ, ◌<◌, Bool, true, false, ◌||◌, cond, Option, None, Some, Result, Ok, Err, IfErr, List, [], ◌∷◌, ◌++◌, map, length, arith}
 use Rattle.std.specs.List.{All, list_any}
 use Rattle.std.proofs.lemmas.List.{reverse-append}
 use Rattle.std.proofs.lemmas.List.Elements.{All-head}
@@ -75,10 +75,10 @@ no_any x h = cc
 
 -- ---- dependences
 
-IsSome : {A : Type 0} → Option A → Type 0
-IsSome {A} u = (a : A) × (u ≡ Some a)
+abbrev IsKept : {A : Type 0} → Option A → Type 0
+IsKept {A} u = (a : A) × (u ≡ Some a)
 
-both_kept : (u v : Option Kept) → between u v ≡ true → IsSome u × IsSome v
+both_kept : (u v : Option Kept) → between u v ≡ true → IsKept u × IsKept v
 both_kept None v e = absurd cc
 both_kept (Some a) None e = absurd cc
 both_kept (Some a) (Some b) e = ((a, refl), (b, refl))
@@ -142,3 +142,9 @@ module _ (kept : List Kept) (ids : List Id) (bundles : List (List Id)) (held_is 
           subst (λ l. IsCycle (depends_in m) l cycle) there (cycle_in m formed kept right (window_ids kept bundles) cycle r.1),
           subst (λ l. All (IsGroup l bundles) cycle) there r.2,
         )
+
+-- ---- results
+
+pub if_err : {A E : Type 0} (r : Result A E) (P Q : E → Type 0) → ((e : E) → P e → Q e) → IfErr r P → IfErr r Q
+if_err (Ok a) P Q f h = h
+if_err (Err e) P Q f h = f e h
