@@ -9,6 +9,6 @@ mod laws;
 pub use laws::{
     accesses_keep_apart, blocks_refine, effects_swap, exits_are_entered, exits_lead_on,
     functions_refine, modules_refine, neighbours_swap, orders_reorder, outcomes_refine,
-    phis_are_entered, rows_refine, starts_are_entered, steps_keep_ready,
-    steps_swap, whole_blocks_refine, windows_refine,
+    phis_are_entered, rows_refine, starts_are_entered, steps_keep_ready, steps_swap,
+    whole_blocks_refine, windows_refine,
 };

@@ -264,7 +264,7 @@ module _ (keeps : Keeps) (ids : List Id) (bundles : List (List Id)) (once : AreO
   group_is g h = elim (front_or_back (map (place_of ids)) bundles (singles bundles 0 ids) g h) [
     | inl r ↦ inl (subst (Contains bundles) (sym (ap (ids_at ids) r.2 ∙ whole ids r.0 (λ x k. members x (member_of bundles r.0 x r.1 k)))) r.1)
     | inr r ↦ (let s = single_at bundles 0 ids r.0 r.1 in
-      inr (s.id, ap (ids_at ids) (r.2 ∙ s.group ∙ ap (λ n. n ∷ []) (from_none s.place)) ∙ ap (λ u. with_id u []) s.there, any_at ids s.place s.id s.id s.there (same_itself s.id), s.alone))
+        inr (s.id, ap (ids_at ids) (r.2 ∙ s.group ∙ ap (λ n. n ∷ []) (from_none s.place)) ∙ ap (λ u. with_id u []) s.there, any_at ids s.place s.id s.id s.there (same_itself s.id), s.alone))
   ]
 
   leads : (v : ℕ) (vs : List ℕ) (w : ℕ) → Leads (contracted groups edges) v vs w → LeadThrough keeps ids (group v) (map group vs) (group w) × All (λ g. IsGroup ids bundles (group g)) (v ∷ vs)

@@ -1,5 +1,5 @@
 -- The ids of a reach are answered as instructions that follow one another, and a graph that grows over them asks for each.
-use Rattle.std.proofs.Common.{◌≡◌, refl, sym, ap, ◌∙◌, subst, ℕ, Bool, true, false, ◌||◌, cond, Option, None, Some, List, [], ◌∷◌, ◌++◌, map, append_assoc, length, take, drop, ◌-◌}
+use Rattle.std.proofs.Common.{◌≡◌, refl, sym, ap, ◌∙◌, subst, ℕ, Bool, true, false, ◌||◌, cond, Option, None, Some, List, [], ◌∷◌, ◌++◌, append_assoc, length, take, drop, ◌-◌}
 use Rattle.std.proofs.lemmas.List.{take-append-drop}
 use Rattle.ir_types.specs.declared.id.Id.{Id}
 use Rattle.ir_types.specs.declared.id.Place.{Place}
@@ -17,7 +17,7 @@ use Rattle.vx_view.proofs.Blocks.{found_block, found_alone}
 use Rattle.vx_view.proofs.Edits.{inst_ids}
 use Rattle.vx_serial.specs.Near.{looked_at}
 use Rattle.vx_serial.specs.Window.{is_member, up_to}
-use Rattle.vx_deps.specs.Reach.{reach, has, ids_of, looked_ids, is_answered, id_answered, is_there}
+use Rattle.vx_deps.specs.Reach.{reach, has, ids_of, is_answered, id_answered, is_there}
 use Rattle.vx_deps.specs.Graphs.{Precedes, NamesNode}
 use Rattle.vx_deps.specs.Orders.{from_member}
 use Rattle.vx_deps.specs.Ordered.{FollowOn, NamesRow}
@@ -89,16 +89,19 @@ up_front at (i ∷ is) = by_test (same_id i.id at) (up_front at is)
     by_test true r = (is, refl)
     by_test false r = (r.0, ap (λ l. i ∷ l) r.1)
 
+-- what is looked at stands in the block
+pub looked_cut : (insts : List Inst) (at : Id) → (before : List Inst) × (after : List Inst) × (insts ≡ before ++ (looked_at insts at ++ after))
+looked_cut insts at =
+    let up : List Inst = up_to at insts in
+    let r = up_front at insts in
+    let n : ℕ = length up - 256 in
+    (take n up, r.0, r.1 ∙ ap (λ l. l ++ r.0) (sym (take-append-drop n up)) ∙ append_assoc (take n up) (drop n up) r.0)
+
 looked_follows : (m : Module) → IsFormed m → (store : Id) (u : Option Standing) → found m store ≡ u → FollowOn m (ids_of (looked_at (block_of u) store))
 looked_follows m formed store None e = tt
 looked_follows m formed store (Some s) e =
-    let up : List Inst = up_to store s.block in
-    let r = up_front store s.block in
-    let n : ℕ = length up - 256 in
-    let cut : block_at m s.place ≡ take n up ++ (drop n up ++ r.0) =
-    (found_block store s m e).0 ∙ r.1 ∙ ap (λ l. l ++ r.0) (sym (take-append-drop n up)) ∙ append_assoc (take n up) (drop n up) r.0
-    in
-    row_follows m formed s.place (take n up) (drop n up) r.0 cut
+    let c = looked_cut s.block store in
+    row_follows m formed s.place c.0 (looked_at s.block store) c.1 ((found_block store s m e).0 ∙ c.2)
 
 pub reach_follows : (m : Module) → IsFormed m → (stores ids : List Id) → reach m stores ≡ Some ids → FollowOn m ids
 reach_follows m formed stores ids e =

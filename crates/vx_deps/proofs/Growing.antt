@@ -11,7 +11,6 @@ use Rattle.ir_types.specs.declared.opd.Opd.{Opd}
 use Rattle.ir_types.specs.Formed.{IsFormed, is_alloca}
 use Rattle.ir_types.proofs.Among.{among, Once, same_is, same_itself}
 use Rattle.ir_types.specs.declared.func.Param.{Param}
-use Rattle.vx_view.specs.declared.answer.Answer.{Answer}
 use Rattle.vx_view.specs.declared.answer.Answer.TheVariants as says
 use Rattle.vx_view.specs.declared.question.Question.{Question}
 use Rattle.vx_view.specs.declared.question.Question.TheVariants as ask

@@ -13,3 +13,4 @@ pub mod Cycling
 pub mod Posing
 pub mod Following
 pub mod Telling
+pub mod Walking

@@ -1,5 +1,5 @@
 -- What is handed to the schedule, and what its answer says of the window.
-use Rattle.std.proofs.Common.{◌≡◌, refl, sym, ap, ◌∙◌, subst, ℕ, ◌<◌, ◌^◌, None, Some, List, [], length, map, get_or, option_map}
+use Rattle.std.proofs.Common.{◌≡◌, sym, ap, ◌∙◌, subst, ℕ, ◌<◌, ◌^◌, None, Some, List, [], length, map, get_or, option_map}
 use Rattle.std.specs.List.{All}
 use Rattle.ir_types.specs.declared.id.Id.{Id}
 use Rattle.vx_order.specs.Groups.{size, IsPartition, contracted}

@@ -1,5 +1,5 @@
 -- What a graph that holds a window says of the window in each module for which it is right.
-use Rattle.std.proofs.Common.{◌≡◌, refl, sym, ap, ◌∙◌, subst, ℕ, ◌<◌, Bool, true, false, ◌||◌, cond, Option, None, Some, Result, Ok, Err, IfErr, List, [], ◌∷◌, ◌++◌, map, length, arith}
+use Rattle.std.proofs.Common.{◌≡◌, refl, sym, ap, ◌∙◌, subst, ◌<◌, Bool, true, false, cond, Option, None, Some, Result, Ok, Err, IfErr, List, [], ◌∷◌, ◌++◌, map, length, arith}
 use Rattle.std.specs.List.{All, list_any}
 use Rattle.std.proofs.lemmas.List.{reverse-append}
 use Rattle.std.proofs.lemmas.List.Elements.{All-head}
@@ -8,14 +8,13 @@ use Rattle.ir_types.specs.declared.module.Module.{Module}
 use Rattle.ir_types.specs.Available.{same_id}
 use Rattle.ir_types.specs.Formed.{IsFormed}
 use Rattle.ir_types.proofs.Among.{same_itself}
-use Rattle.vx_view.specs.Answers.{found, Standing}
+use Rattle.vx_view.specs.Answers.{found}
 use Rattle.vx_serial.specs.Window.{is_member}
-use Rattle.vx_serial.specs.Bundles.{AreOnce}
 use Rattle.vx_serial.proofs.Tests.{or_first}
 use Rattle.vx_deps.specs.declared.refusal.OrderRefusal.{OrderRefusal}
 use Rattle.vx_deps.specs.declared.refusal.OrderRefusal.TheVariants.{NoOrder, OutOfMemory}
-use Rattle.vx_deps.specs.Graphs.{Kept, ids_of, kept_of, between, depends_on, keeps, IsRight, IsHeld}
-use Rattle.vx_deps.specs.Orders.{Keeps, HaveMembers, from_member, window_ids, order, order_in}
+use Rattle.vx_deps.specs.Graphs.{Kept, ids_of, kept_of, between, keeps, IsRight}
+use Rattle.vx_deps.specs.Orders.{HaveMembers, from_member, window_ids, order}
 use Rattle.vx_deps.specs.Cycles.{AreBundlesOf, LeadsTo, LeadThrough, IsCycle, IsGroup, Refuses}
 use Rattle.vx_deps.specs.Ordered.{last_of, last_id, order_at, order_to, order_over, depends_if, depends_in, RefusesIn}
 use Rattle.vx_deps.proofs.Growing.{told}

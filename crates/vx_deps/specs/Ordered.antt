@@ -1,5 +1,5 @@
 -- The order of bundles in a module, as it is asked for over a view: in the window that runs to the last of some ids.
-use Rattle.std.specs.Prelude.{◌≡◌, refl, ◌<◌, Bool, true, false, Option, None, Some, List, [], ◌∷◌, length, option_map, ⊤}
+use Rattle.std.specs.Prelude.{◌≡◌, refl, Bool, true, false, Option, None, Some, List, [], ◌∷◌, option_map, ⊤}
 use Rattle.std.specs.List.{All}
 use Rattle.ir_types.specs.declared.id.Id.{Id}
 use Rattle.ir_types.specs.declared.module.Module.{Module}

@@ -78,9 +78,9 @@ LooksFor m stores q = (store : Id) × (has stores store ≡ true) × LooksAt m s
 abbrev pub Stand : Module → List Inst → List Id → Type 0
 Stand m insts stores = (store : Id) → has stores store ≡ true → (s : Standing) × (found m store ≡ Some s) × (s.block ≡ insts)
 
--- a question for an instruction of the neighbourhood of the stores, or for what stands before it
+-- a question for an instruction of the neighbourhood of the stores, or for what stands just before or after it
 abbrev pub NamesNear : Module → List Inst → List Id → Question → Type 0
-NamesNear m insts stores q = (x : Id) × ((q ≡ ask.Inst x) ⊎ (q ≡ ask.Prev x)) × IsNear m insts stores x
+NamesNear m insts stores q = (x : Id) × ((q ≡ ask.Inst x) ⊎ ((q ≡ ask.Prev x) ⊎ (q ≡ ask.Next x))) × IsNear m insts stores x
 
 -- ---- answers
 

@@ -1,7 +1,7 @@
 -- What is held in block order, and the edges that it has.
 use Rattle.std.specs.Prelude.{◌≡◌, refl, ℕ, suc, cond, List, [], ◌∷◌, ◌++◌, map, reverse}
 use Rattle.ir_types.specs.declared.id.Id.{Id}
-use Rattle.vx_serial.specs.Window.{is_member, id, load, store}
+use Rattle.vx_serial.specs.Window.{is_member, load, store}
 use Rattle.vx_deps.specs.Graphs.{Kept, depends_on, touching}
 
 -- what is held in block order

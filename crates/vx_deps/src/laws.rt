@@ -11,11 +11,17 @@ ghost use Rattle.vx_serial.specs.Bundles.{AreOnce};
 ghost use Rattle.vx_view.specs.declared.question.Question.{Question};
 ghost use Rattle.vx_deps.specs.Graphs.{Kept, ids_of, IsRight, IsHeld, TellsOf};
 ghost use Rattle.vx_deps.specs.Orders.{HaveMembers, IsWindowOrder};
+ghost use Rattle.vx_deps.specs.Ordered.{NamesRow};
 ghost use Rattle.vx_deps.specs.Reach.{reach, AreNear, AreFar, Stand, LooksFor, NamesNear};
 
 /// In a formed module, what is asked for the reach of stores of one block names ids of their neighbourhood alone.
 pub fn reads_are_near()
     ensures { (m : Module) → IsFormed m → (insts : List Inst) (stores : List Id) → Stand m insts stores → (q : Question) → LooksFor m stores q → NamesNear m insts stores q }
+{}
+
+/// In a formed module, what is asked for an order in the reach of stores of one block names ids of their neighbourhood alone.
+pub fn orders_read_near()
+    ensures { (m : Module) → IsFormed m → (insts : List Inst) (stores : List Id) → Stand m insts stores → (ids : List Id) → reach m stores ≡ Some ids → (q : Question) → NamesRow m ids q → NamesNear m insts stores q }
 {}
 
 /// A reach is what is looked at for one of the stores, with all stores among it; where there is none, there is no such store.

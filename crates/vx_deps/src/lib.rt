@@ -21,7 +21,8 @@ mod window;
 pub use extent::Reach;
 pub use graph::Graph;
 pub use laws::{
-    graphs_have_the_order, graphs_hold_each_once, graphs_tell_dependences, reaches_have_the_stores, reads_are_near,
+    graphs_have_the_order, graphs_hold_each_once, graphs_tell_dependences, orders_read_near,
+    reaches_have_the_stores, reads_are_near,
 };
 pub use ordering::order;
 pub use refusal::{Bundles, OrderRefusal};

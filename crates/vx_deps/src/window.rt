@@ -164,10 +164,7 @@ fn push_edges(
 }
 
 /// The edges between the instructions of a window, which come the last of the block first.
-pub(crate) fn edges_between(
-    alloc: Global,
-    window: &[Node],
-) -> Result<Vec<(u32, u32)>, AllocError>
+pub(crate) fn edges_between(alloc: Global, window: &[Node]) -> Result<Vec<(u32, u32)>, AllocError>
     requires { length window.now < 2 ^ 32 }
     ensures { IfOk result (λ edges. edges.items ≡ edges_between 0 (row (map as_node window.now))) }
 {

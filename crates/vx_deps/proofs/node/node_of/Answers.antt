@@ -2,15 +2,13 @@ use Rattle.std.proofs.Common.{◌≡◌, ◌∙◌, sym, ap, subst, inl, inr}
 use Rattle.ir_types.specs.declared.id.Id.{Id}
 use Rattle.ir_types.specs.declared.module.Module.{Module}
 use Rattle.ir_types.specs.Formed.{IsFormed}
-use Rattle.vx_view.specs.declared.question.Question.{Question}
 use Rattle.vx_view.specs.declared.question.Question.TheVariants as ask
-use Rattle.vx_view.specs.declared.answer.Answer.{Answer}
 use Rattle.vx_view.specs.Answers.{answer}
 use Rattle.ir_types.specs.declared.inst.Inst.{Inst}
 use Rattle.vx_view.specs.UsesAfter.{Contents}
 use Rattle.vx_view.specs.Blocks.{block_at}
 use Rattle.vx_view.specs.Conflicts.{access_of}
-use Rattle.vx_view.specs.Views.{State, StandsFor, Asks}
+use Rattle.vx_view.specs.Views.{StandsFor, Asks}
 use Rattle.vx_view.proofs.Asking.{asks_none, asks_one, asks_then}
 use Rattle.vx_addr.specs.Walks.{Names, on_access}
 use Rattle.vx_addr.proofs.Lookups.{if_ok}

@@ -2,13 +2,12 @@ use Rattle.std.proofs.Common.{◌≡◌, ◌∙◌, sym, ap, subst, List, Some}
 use Rattle.ir_types.specs.declared.id.Id.{Id}
 use Rattle.ir_types.specs.declared.module.Module.{Module}
 use Rattle.ir_types.specs.Formed.{IsFormed}
-use Rattle.vx_serial.specs.Bundles.{AreOnce}
 use Rattle.vx_view.specs.UsesAfter.{Contents}
 use Rattle.vx_view.specs.Views.{StandsFor}
 use Rattle.vx_addr.proofs.Lookups.{if_ok}
 use Rattle.vx_deps.specs.Graphs.{Kept, held, ids_of, keeps}
 use Rattle.vx_deps.specs.Orders.{from_member, window_ids, order}
-use Rattle.vx_deps.specs.Cycles.{AreBundlesOf, Refuses}
+use Rattle.vx_deps.specs.Cycles.{Refuses}
 use Rattle.vx_deps.specs.Ordered.{FollowOn, order_over, RefusesIn}
 use Rattle.vx_deps.proofs.Following.{follow_window, reach_follows}
 use Rattle.vx_deps.proofs.Orders.{right_once}

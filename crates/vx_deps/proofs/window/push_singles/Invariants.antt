@@ -1,5 +1,4 @@
 use Rattle.std.proofs.Common.{◌≡◌, ◌+◌, ◌++◌, length}
-use Rattle.vx_serial.specs.Window as window
 use Rattle.vx_deps.specs.Orders.{singles}
 use Rattle.vx_deps.proofs.window.push_singles.Given as goal
 
