@@ -1,5 +1,5 @@
 -- What the walks from an instruction's pointer come by is named by the instruction, or by what leads to it.
-use Rattle.std.proofs.Common.{◌≡◌, refl, sym, ap, ◌∙◌, subst, ℕ, zero, suc, ℤ, Bool, true, false, ◌||◌, ◌&&◌, Option, None, Some, List, [], ◌∷◌, ◌⊎◌, inl, inr}
+use Rattle.std.proofs.Common.{◌≡◌, refl, ap, ◌∙◌, subst, ℕ, zero, suc, ℤ, Bool, true, false, ◌||◌, ◌&&◌, Option, None, Some, List, [], ◌∷◌, ◌⊎◌, inl, inr}
 use Rattle.std.specs.Prelude.{option_map, option_and_then}
 use Rattle.std.specs.List.{list_any}
 use Rattle.ir_types.specs.declared.id.Id.{Id}
@@ -10,14 +10,13 @@ use Rattle.ir_types.specs.declared.opd.Opd.TheVariants.{Val, Lit, Sym}
 use Rattle.ir_types.specs.declared.op.Op.{Op}
 use Rattle.ir_types.specs.declared.op.Op.TheVariants.{Gep, Load, Store}
 use Rattle.ir_types.specs.declared.inst.Inst.{Inst}
-use Rattle.ir_types.specs.Available.{same_id}
 use Rattle.ir_types.proofs.Among.{same_is, same_itself}
 use Rattle.vx_view.specs.Answers.{find, is_value}
-use Rattle.vx_view.specs.Addresses.{Symbol, Offset, Led, Summand, Number, Poison, Value, Other, beside_symbol, with_lane, with_index, with_indices, scales_of, led_op, led_by, led_back, summand_of, summand, summed, summed_by, is_wide, is_sum, sum_back, back_from, symbol_back, or_stay, Walked, pointers, start}
+use Rattle.vx_view.specs.Addresses.{Symbol, Offset, Led, Summand, Number, Poison, Value, beside_symbol, with_lane, with_index, with_indices, scales_of, led_op, led_by, led_back, summand_of, summand, summed, summed_by, is_wide, is_sum, sum_back, back_from, symbol_back, or_stay, pointers, start}
 use Rattle.vx_view.specs.Conflicts.{Access, access_by, access_of}
 use Rattle.vx_addr.specs.Walks.{on_pointers, on_symbols, is_symbol, on_from, on_rest, first, end, on_walks, on_access}
 use Rattle.vx_serial.specs.Near.{LeadsTo}
-use Rattle.vx_serial.proofs.Tests.{or_case, or_first, or_second, true_false}
+use Rattle.vx_serial.proofs.Tests.{or_case, or_first, or_second}
 
 some_is : {A : Type 0} {a b : A} → Some a ≡ Some b → a ≡ b
 some_is e = cc
