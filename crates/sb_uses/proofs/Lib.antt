@@ -5,3 +5,4 @@ pub mod Keeping
 pub mod Entered
 pub mod Walking
 pub mod Steps
+pub mod Stocks

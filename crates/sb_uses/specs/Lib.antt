@@ -5,3 +5,4 @@ pub mod Linking
 pub mod Entering
 pub mod Whole
 pub mod Spots
+pub mod Stock

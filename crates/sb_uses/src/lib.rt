@@ -9,9 +9,12 @@
 
 mod chains;
 mod entering;
+mod kept;
 mod listing;
+mod slots;
 #[cfg(test)]
 mod tests;
 mod use_lists;
 
+pub use slots::Slots;
 pub use use_lists::{Spot, UseLists};
