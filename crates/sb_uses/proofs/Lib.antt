@@ -6,3 +6,4 @@ pub mod Entered
 pub mod Walking
 pub mod Steps
 pub mod Stocks
+pub mod Holdings

@@ -1,5 +1,5 @@
 -- What comes in and goes out is undone: lists and what was kept are as they were.
-use Rattle.std.proofs.Common.{◌≡◌, refl, sym, ap, ◌∙◌, subst, ℕ, suc, ◌+◌, ◌<◌, ◌≤◌, Bool, true, false, ◌&&◌, Option, None, Some, List, [], ◌∷◌, cond, nat_eq, arith}
+use Rattle.std.proofs.Common.{◌≡◌, refl, sym, ap, ◌∙◌, subst, ℕ, suc, ◌<◌, ◌≤◌, Bool, true, false, ◌&&◌, Option, None, Some, List, [], ◌∷◌, length, cond, nat_eq, arith}
 use Rattle.std.proofs.Math.Path.{fun_ext}
 use Rattle.std.proofs.lemmas.Bool.Decides.{nat_tests}
 use Rattle.ir_types.specs.declared.id.Id.{Id}
@@ -18,7 +18,7 @@ use Rattle.sb_uses.specs.Whole.{Apart, Seg}
 use Rattle.sb_uses.specs.Spots.{Keeps}
 use Rattle.sb_uses.specs.Stock as st
 use Rattle.sb_uses.specs.Stock.{slot_use, HasSlot, LacksSlot, HasSlots, LacksSlots, AllApart, Stock, stood_from, stood_after, opd_kept, slot_added, slot_taken, slot_withdrawn, added, withdrawn, replaced, kept_back, slot_restored, restored, set_back, FitsBack, CanRestoreSlot, CanRestore, CanSetBack, IsKnown, AllKnown}
-use Rattle.sb_uses.proofs.Segments.{false-true, none-some, use-is, use-itself, use-not, end-itself, hit, miss, Off, has-head, has-more, has-split, taken-apart, taken-lacks, put-apart}
+use Rattle.sb_uses.proofs.Segments.{false-true, use-is, use-itself, end-itself, hit, miss, Off, has-head, has-more, taken-apart, taken-lacks, put-apart}
 
 -- ---- where a use stood
 
@@ -157,15 +157,15 @@ module _ (user : Id) (a b : Lists) where
   lacks-slots j [] same h = tt
   lacks-slots j (o ∷ os) same h = (lacks-slot j o same h.0, lacks-slots (suc j) os (later j same) h.1)
 
-pub still-has : (user : Id) (k : ℕ) (o : Opd) (os : List Opd) (lists : Lists) → HasSlots user (suc k) os lists → HasSlots user (suc k) os (opd_taken user k o lists)
-still-has user k o os lists h = has-slots user lists (opd_taken user k o lists) (suc k) os (λ x i le. taken-same user k o lists x i (omega (arith, le))) h
+pub still-has : (user : Id) (k j : ℕ) (o : Opd) (os : List Opd) (lists : Lists) → k < j → HasSlots user j os lists → HasSlots user j os (opd_taken user k o lists)
+still-has user k j o os lists less h = has-slots user lists (opd_taken user k o lists) j os (λ x i le. taken-same user k o lists x i (omega (arith, le, less))) h
 
-pub still-lacks : (user : Id) (k : ℕ) (o : Opd) (os : List Opd) (lists : Lists) → LacksSlots user (suc k) os lists → LacksSlots user (suc k) os (opd_added user k o lists)
-still-lacks user k o os lists h = lacks-slots user lists (opd_added user k o lists) (suc k) os (λ x i le. added-same user k o lists x i (omega (arith, le))) h
+pub still-lacks : (user : Id) (k j : ℕ) (o : Opd) (os : List Opd) (lists : Lists) → k < j → LacksSlots user j os lists → LacksSlots user j os (opd_added user k o lists)
+still-lacks user k j o os lists less h = lacks-slots user lists (opd_added user k o lists) j os (λ x i le. added-same user k o lists x i (omega (arith, le, less))) h
 
 -- ---- what came goes again
 
-stock-is : {s t : Stock} → s.lists ≡ t.lists → s.kept ≡ t.kept → s ≡ t
+pub stock-is : {s t : Stock} → s.lists ≡ t.lists → s.kept ≡ t.kept → s ≡ t
 stock-is e f = λ i. record { lists = e i; kept = f i }
 
 -- two slots of one user, one that comes and an earlier one that goes, in either order
@@ -327,14 +327,14 @@ pub taken-back : (user : Id) (k : ℕ) (os : List Opd) (s : Stock) → AllApart 
 taken-back user k [] s apart got = refl
 taken-back user k (o ∷ os) s apart got =
     restored-last os (st.taken user (suc k) os (slot_taken user k o s))
-    ∙ ap slot_restored (taken-back user (suc k) os (slot_taken user k o s) (apart-taken user k o s.lists apart) (still-has user k o os s.lists got.1))
+    ∙ ap slot_restored (taken-back user (suc k) os (slot_taken user k o s) (apart-taken user k o s.lists apart) (still-has user k (suc k) o os s.lists (omega (arith)) got.1))
     ∙ slot-back user k o s apart got.0
 
 pub taken-can : (user : Id) (k : ℕ) (os : List Opd) (s : Stock) → AllApart s.lists → HasSlots user k os s.lists → CanRestore os (st.taken user k os s)
 taken-can user k [] s apart got = tt
 taken-can user k (o ∷ os) s apart got =
     let apart_one = apart-taken user k o s.lists apart in
-    let got_more = still-has user k o os s.lists got.1 in
+    let got_more = still-has user k (suc k) o os s.lists (omega (arith)) got.1 in
     can-last o os (st.taken user (suc k) os (slot_taken user k o s))
     (taken-can user (suc k) os (slot_taken user k o s) apart_one got_more)
     (subst CanRestoreSlot (sym (taken-back user (suc k) os (slot_taken user k o s) apart_one got_more)) (slot-can user k o s apart got.0))
@@ -359,3 +359,9 @@ keeps-known s t (Some k) keeps h = (keeps k.value None h.0, keeps k.value (Some 
 pub still-known : (s t : Chains) (ks : List (Option Kept)) → Keeps s t → AllKnown s ks → AllKnown t ks
 still-known s t [] keeps h = tt
 still-known s t (k ∷ ks) keeps h = (keeps-known s t k keeps h.0, still-known s t ks keeps h.1)
+
+-- ---- the end of a loop
+
+pub nothing-left : (os : List Opd) → length os < 1 → os ≡ []
+nothing-left [] less = refl
+nothing-left (o ∷ os) less = absurd (omega (arith, less))

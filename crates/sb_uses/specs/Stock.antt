@@ -12,7 +12,7 @@ use Rattle.ir_types.specs.declared.opd.Opd.{Opd}
 use Rattle.ir_types.specs.declared.opd.Opd.TheVariants.{Val, Sym}
 use Rattle.vx_view.specs.Answers.{value}
 use Rattle.vx_view.specs.Uses.{Lists, same_use}
-use Rattle.vx_view.specs.UsesAfter.{with_list, opd_added, opd_taken, all_added, all_taken}
+use Rattle.vx_view.specs.UsesAfter.{with_list, opd_added, opd_taken}
 use Rattle.sb_uses.specs.declared.chains.Chains.{Chains}
 use Rattle.sb_uses.specs.declared.kept.Kept.{Kept}
 use Rattle.sb_uses.specs.Chains.{known, lists, room}

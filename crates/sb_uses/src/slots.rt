@@ -5,7 +5,8 @@
 //! undone in turn, the newest first; `forget` lets go of what was kept. A slot takes constant time. Only `reserve` and `list` want
 //! memory: room to keep a slot is made when it comes.
 
-ghost use Rattle.std.specs.Prelude.{◌≡◌, ◌≤◌, ◌<◌, ◌+◌, [], length, IsOk, IfOk, OnOk};
+ghost use Rattle.std.specs.Prelude.{◌≡◌, ◌≤◌, ◌<◌, ◌+◌, List, [], length, IsOk, IfOk, OnOk};
+ghost use Rattle.ir_types.specs.declared.opd.Opd.{Opd};
 ghost use Rattle.ir_types.specs.declared.id.Id.{Id};
 ghost use Rattle.sb_uses.specs.Chains.{lists};
 ghost use Rattle.sb_uses.specs.Stock.{HasSlot, HasSlots, LacksSlot, LacksSlots, stock, spare, added, taken, withdrawn, restored, replaced, set_back, slot_added, slot_taken, slot_withdrawn, slot_restored, CanRestoreSlot, CanRestore, CanSetBack};
@@ -93,6 +94,7 @@ impl Slots {
         ensures held { self.new.held ≡ self.old.held + length opds.now }
         ensures room { spare self.old ≤ spare self.new + length opds.now }
     {
+        let _ = &self.lists;
         let mut left = opds;
         let mut slot = 0;
         while let [opd, rest @ ..] = left {
@@ -112,6 +114,7 @@ impl Slots {
         ensures held { self.old.held ≡ self.new.held + length opds.now }
         ensures room { spare self.old ≤ spare self.new }
     {
+        let _ = &self.lists;
         let mut left = opds;
         let mut slot = 0;
         while let [opd, rest @ ..] = left {
@@ -129,6 +132,7 @@ impl Slots {
         ensures held { self.old.held ≡ self.new.held + length opds.now }
         ensures room { spare self.old ≤ spare self.new }
     {
+        let _ = &self.lists;
         let mut left = opds;
         let mut slot = 0;
         while let [opd, rest @ ..] = left {
@@ -165,6 +169,7 @@ impl Slots {
         ensures held { self.new.held ≡ self.old.held }
         ensures room { spare self.old ≤ spare self.new + 1 }
     {
+        let _ = &self.lists;
         self.take_one(user, slot, old);
         self.add_one(user, slot, new);
     }
@@ -175,8 +180,9 @@ impl Slots {
         requires held { 0 < self.old.held }
         ensures now { stock self.new ≡ set_back user slot new.now (stock self.old) }
         ensures held { self.new.held ≡ self.old.held }
-        ensures room { spare self.old ≤ spare self.new }
+        ensures room { spare self.old ≤ spare self.new + 1 }
     {
+        let _ = &self.held;
         self.withdraw_one(user, slot, new);
         self.restore_one();
     }
@@ -203,6 +209,7 @@ impl Slots {
         requires lacks { LacksSlot user slot opd.now (stock self.old).lists }
         requires room { 0 < spare self.old }
         ensures now { stock self.new ≡ slot_added user slot opd.now (stock self.old) }
+        ensures later { (os : List Opd) → LacksSlots user (slot + 1) os (stock self.old).lists → LacksSlots user (slot + 1) os (stock self.new).lists }
         ensures held { self.new.held ≡ self.old.held + 1 }
         ensures room { spare self.old ≤ spare self.new + 1 }
     {
@@ -215,6 +222,7 @@ impl Slots {
         requires has { HasSlot user slot opd.now (stock self.old).lists }
         requires held { 0 < self.old.held }
         ensures now { stock self.new ≡ slot_taken user slot opd.now (stock self.old) }
+        ensures later { (os : List Opd) → HasSlots user (slot + 1) os (stock self.old).lists → HasSlots user (slot + 1) os (stock self.new).lists }
         ensures held { self.old.held ≡ self.new.held + 1 }
         ensures room { spare self.old ≤ spare self.new }
     {
@@ -230,6 +238,7 @@ impl Slots {
         requires has { HasSlot user slot opd.now (stock self.old).lists }
         requires held { 0 < self.old.held }
         ensures now { stock self.new ≡ slot_withdrawn user slot opd.now (stock self.old) }
+        ensures later { (os : List Opd) → HasSlots user (slot + 1) os (stock self.old).lists → HasSlots user (slot + 1) os (stock self.new).lists }
         ensures held { self.old.held ≡ self.new.held + 1 }
         ensures room { spare self.old ≤ spare self.new }
     {
@@ -245,9 +254,10 @@ impl Slots {
         ensures held { self.new.held ≡ self.old.held + 1 }
         ensures room { spare self.old ≤ spare self.new + 1 }
     {
-        if let Some(kept) = self.kept.pop() {
-            self.lists.put_slot(kept);
-        }
+        let Some(kept) = self.kept.pop() else {
+            unreachable!();
+        };
+        self.lists.put_slot(kept);
         self.held += 1;
     }
 }
