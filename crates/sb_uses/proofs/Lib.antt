@@ -7,3 +7,4 @@ pub mod Walking
 pub mod Steps
 pub mod Stocks
 pub mod Holdings
+pub mod Totals

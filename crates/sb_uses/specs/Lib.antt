@@ -6,3 +6,4 @@ pub mod Entering
 pub mod Whole
 pub mod Spots
 pub mod Stock
+pub mod Totals
