@@ -8,3 +8,5 @@ pub mod Steps
 pub mod Stocks
 pub mod Holdings
 pub mod Totals
+pub mod Changed
+pub mod Exact

@@ -85,7 +85,7 @@ came-back us u apart got = came-from None us u apart tt got
 -- ---- one list of all
 
 -- with one list edited, each is edited where it is that one
-at-list : (f : List Use → List Use) (v x : Id) (lists : Lists) → with_list v (f (lists v)) lists x ≡ cond (same_id v x) (f (lists x)) (lists x)
+pub at-list : (f : List Use → List Use) (v x : Id) (lists : Lists) → with_list v (f (lists v)) lists x ≡ cond (same_id v x) (f (lists x)) (lists x)
 at-list f v x lists = go (same_id v x) refl
   where
     go : (b : Bool) → same_id v x ≡ b → cond b (f (lists v)) (lists x) ≡ cond b (f (lists x)) (lists x)

@@ -407,3 +407,18 @@ apart_inserted f m new neither more apart x = by_test (same_id new x) refl (more
         let all = now in
         omega (arith, le, params, none, all)
     by_test false t le = let before = was in let all = now in let a = apart x in omega (arith, le, before, all, a)
+
+-- an id stands among instructions once at most
+pub insts_apart : (m : Module) → IdsApart m → (x : Id) → total (one_of x) m ≤ 1
+insts_apart m apart x = let all = times_items x m.items in let le = apart x in omega (arith, all, le)
+
+-- two edits that together keep how often an id stands
+pub apart_twice : (f g : Edit) (m : Module) → ((x : Id) → total (one_of x) (edited f (edited g m)) ≡ total (one_of x) m) → IdsApart m → IdsApart (edited f (edited g m))
+apart_twice f g m same apart x =
+    let was = times_items x m.items in
+    let now = times_items x (map (edited_item f) (map (edited_item g) m.items)) in
+    let first = params_edited x g m.items in
+    let second = params_edited x f (map (edited_item g) m.items) in
+    let e = same x in
+    let all = apart x in
+    omega (arith, was, now, first, second, e, all)
