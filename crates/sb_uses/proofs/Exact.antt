@@ -1,5 +1,5 @@
 -- Use lists that are exact stay exact after each kind of change that fits.
-use Rattle.std.proofs.Common.{◌≡◌, refl, sym, ap, ◌∙◌, subst, ℕ, zero, suc, ◌+◌, ◌<◌, ◌≤◌, Bool, true, false, ◌&&◌, Option, None, Some, List, [], ◌∷◌, ◌++◌, cond, nat_eq, slice_get, slice_set, arith}
+use Rattle.std.proofs.Common.{◌≡◌, refl, sym, ap, ◌∙◌, subst, ℕ, zero, suc, ◌+◌, ◌<◌, ◌≤◌, Bool, true, false, ◌&&◌, None, Some, List, [], ◌∷◌, ◌++◌, cond, nat_eq, slice_get, slice_set, arith}
 use Rattle.std.proofs.lemmas.Bool.Decides.{nat_tests}
 use Rattle.ir_types.specs.declared.id.Id.{Id}
 use Rattle.ir_types.specs.declared.id.Use.{Use}
@@ -15,7 +15,7 @@ use Rattle.ir_types.proofs.Among.{same_is, same_itself, Once}
 use Rattle.vx_view.specs.declared.change.Change.{Change}
 use Rattle.vx_view.specs.declared.change.Change.TheVariants.{Insert, Remove, Move, Replace, SetOperand}
 use Rattle.vx_view.specs.Answers.{funcs_of, found, Standing, is_value, slots_from, uses_in, uses_in_blocks, uses_of}
-use Rattle.vx_view.specs.Changes.{edited, removing, with_operand, moved, applied, Fits}
+use Rattle.vx_view.specs.Changes.{moved, applied, Fits}
 use Rattle.vx_view.specs.Uses.{Lists, same_use, times, taken, IsExact}
 use Rattle.vx_view.specs.UsesAfter.{opd_added, opd_taken, all_added, all_taken, without_uses, without_slot, slot_taken, lists_after}
 use Rattle.sb_uses.specs.Places.{has}
@@ -359,7 +359,7 @@ module _ (v : Id) (u : Use) where
         let part = remove_total slots m x s once_ids e in
         let went = went_one s.inst.id slot old lists (omega (arith, le, old_one, all, part)) in
         let same : times u (without_slot slot (found m x) lists v) ≡ times u (opd_taken s.inst.id slot old lists v) =
-            ap (λ q. times u (without_slot slot q lists v)) e ∙ ap (λ q. times u (slot_taken s.inst.id slot q lists v)) here in
+        ap (λ q. times u (without_slot slot q lists v)) e ∙ ap (λ q. times u (slot_taken s.inst.id slot q lists v)) here in
         let came = came_one x slot o (without_slot slot (found m x) lists) in
         omega (arith, sum, set, old_one, new_one, went, same, came, all)
 
@@ -412,9 +412,9 @@ module _ (m : Module) (lists : Lists) (apart : IdsApart m) (exact : IsExact m li
       let id_is : s.inst.id ≡ x = same_is s.inst.id x (same_found m x s (apart_once m apart) e) in
       subst (λ y. LacksSlots x 0 os (all_taken y 0 s.inst.opds lists)) id_is
       (lacks_each x 0 os (all_taken s.inst.id 0 s.inst.opds lists) (λ v j.
-          let went = after_taking v (slot_use x j) m lists apart exact x s e in
-          let all = found_total (slots v (slot_use x j)) x (none_of v (slot_use x j)) m s (apart_once m apart) e in
-          omega (arith, went, all)))
+      let went = after_taking v (slot_use x j) m lists apart exact x s e in
+      let all = found_total (slots v (slot_use x j)) x (none_of v (slot_use x j)) m s (apart_once m apart) e in
+      omega (arith, went, all)))
 
   pub slot_listed : (x : Id) (slot : ℕ) (old : Opd) (s : Standing) → found m x ≡ Some s → slice_get s.inst.opds slot ≡ Some old → HasSlot x slot old lists
   slot_listed x slot old s e here = first old here
@@ -425,7 +425,7 @@ module _ (m : Module) (lists : Lists) (apart : IdsApart m) (exact : IsExact m li
           let zero_is : 0 + slot ≡ slot = omega (arith) in
           let le = at_slot v (slot_use x slot) s.inst.id 0 slot s.inst.opds (Val v) h in
           let own : one_slot v (slot_use x slot) s.inst.id (0 + slot) (Val v) ≡ 1 =
-              ap (λ i. one_slot v (slot_use x slot) s.inst.id i (Val v)) zero_is ∙ ap (λ y. one_slot v (slot_use x slot) y slot (Val v)) id_is ∙ slot_itself v x slot in
+          ap (λ i. one_slot v (slot_use x slot) s.inst.id i (Val v)) zero_is ∙ ap (λ y. one_slot v (slot_use x slot) y slot (Val v)) id_is ∙ slot_itself v x slot in
           let sum = remove_total (slots v (slot_use x slot)) m x s (apart_once m apart) e in
           let all = counted v (slot_use x slot) m lists apart exact in
           times_has (slot_use x slot) (lists v) (omega (arith, le, own, sum, all))
@@ -443,7 +443,7 @@ module _ (m : Module) (lists : Lists) (apart : IdsApart m) (exact : IsExact m li
           let le = at_slot v (slot_use x slot) s.inst.id 0 slot s.inst.opds old here in
           let most = only_slot v (slot_use x slot) s.inst.id 0 slot s.inst.opds old here (ap (λ w. same_use w (slot_use x slot)) at ∙ use-itself (slot_use x slot)) in
           let one : one_slot v (slot_use x slot) s.inst.id (0 + slot) old ≡ one_slot v (slot_use x slot) x slot old =
-              ap (λ i. one_slot v (slot_use x slot) s.inst.id i old) zero_is ∙ ap (λ y. one_slot v (slot_use x slot) y slot old) id_is in
+          ap (λ i. one_slot v (slot_use x slot) s.inst.id i old) zero_is ∙ ap (λ y. one_slot v (slot_use x slot) y slot old) id_is in
           let all = counted v (slot_use x slot) m lists apart exact in
           let own = found_total (slots v (slot_use x slot)) x (none_of v (slot_use x slot)) m s (apart_once m apart) e in
           let went = went_one v (slot_use x slot) x slot old lists (omega (arith, le, one, all, own)) in

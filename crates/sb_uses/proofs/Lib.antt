@@ -10,3 +10,4 @@ pub mod Holdings
 pub mod Totals
 pub mod Changed
 pub mod Exact
+pub mod Counted

@@ -6,4 +6,5 @@ pub mod Entering
 pub mod Whole
 pub mod Spots
 pub mod Stock
+pub mod StockAfter
 pub mod Totals

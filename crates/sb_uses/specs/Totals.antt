@@ -2,7 +2,7 @@
 --
 -- A total adds a number of each instruction. The ids of a module are apart where each stands once, parameters and instructions
 -- together; that is so of a formed module, and changes that fit keep it.
-use Rattle.std.specs.Prelude.{◌≡◌, refl, ℕ, ◌+◌, ◌≤◌, cond, List, [], ◌∷◌, length}
+use Rattle.std.specs.Prelude.{◌≡◌, refl, ℕ, ◌+◌, ◌≤◌, cond, Option, None, Some, List, [], ◌∷◌, length}
 use Rattle.ir_types.specs.declared.id.Id.{Id}
 use Rattle.ir_types.specs.declared.inst.Inst.{Inst}
 use Rattle.ir_types.specs.declared.func.Block.{Block}
@@ -10,7 +10,9 @@ use Rattle.ir_types.specs.declared.func.Func.{Func}
 use Rattle.ir_types.specs.declared.module.Module.{Module}
 use Rattle.ir_types.specs.Available.{same_id}
 use Rattle.ir_types.specs.Formed.{ids_of}
-use Rattle.vx_view.specs.Answers.{funcs_of, value, doubles}
+use Rattle.vx_view.specs.declared.change.Change.{Change}
+use Rattle.vx_view.specs.declared.change.Change.TheVariants.{Insert, Remove, Replace}
+use Rattle.vx_view.specs.Answers.{funcs_of, found, Standing, value, doubles}
 
 abbrev pub total_in : (Inst → ℕ) → List Inst → ℕ
 total_in w [] = 0
@@ -31,6 +33,21 @@ total w m = total_of_funcs w (funcs_of m.items)
 abbrev pub slots_of : Module → ℕ
 slots_of m = total (λ i. length i.opds) m
 
+abbrev pub slots_in : Option Standing → ℕ
+slots_in None = 0
+slots_in (Some s) = length s.inst.opds
+
+-- how many slots a change brings, and how many go with it
+abbrev pub slots_came : Change → ℕ
+slots_came (Insert x new) = length new.opds
+slots_came (Replace new) = length new.opds
+slots_came _ = 0
+
+abbrev pub slots_gone : Module → Change → ℕ
+slots_gone m (Remove x) = slots_in (found m x)
+slots_gone m (Replace new) = slots_in (found m new.id)
+slots_gone m _ = 0
+
 -- how often an id stands among others
 abbrev pub id_times : Id → List Id → ℕ
 id_times x [] = 0
@@ -43,6 +60,9 @@ IdsApart m = (x : Id) → id_times x (ids_of m) ≤ 1
 
 three_slots : slots_of doubles ≡ 3
 three_slots = refl
+
+two_go_with_the_sum : slots_gone doubles (Remove (value 1)) ≡ 2
+two_go_with_the_sum = refl
 
 the_sum_once : id_times (value 1) (ids_of doubles) ≡ 1
 the_sum_once = refl
