@@ -2,7 +2,6 @@
 use Rattle.std.proofs.Common.{◌≡◌, refl, sym, ap, ◌∙◌, ℕ, zero, suc, ◌+◌, ◌≤◌, Option, None, Some, List, [], ◌∷◌, length, slice_get, slice_set, arith}
 use Rattle.ir_types.specs.declared.id.Id.{Id}
 use Rattle.ir_types.specs.declared.opd.Opd.{Opd}
-use Rattle.ir_types.specs.declared.inst.Inst.{Inst}
 use Rattle.ir_types.specs.declared.module.Module.{Module}
 use Rattle.ir_types.proofs.Among.{same_is}
 use Rattle.vx_view.specs.declared.change.Change.{Change}
@@ -13,7 +12,7 @@ use Rattle.vx_view.specs.UsesAfter.{all_added, all_taken, without_uses, without_
 use Rattle.sb_uses.specs.Stock as st
 use Rattle.sb_uses.specs.Stock.{Stock, slot_added}
 use Rattle.sb_uses.specs.StockAfter.{stock_without, slot_replaced, slot_set, stock_after}
-use Rattle.sb_uses.specs.Totals.{IdsApart, slots_of, slots_in, slots_came, slots_gone}
+use Rattle.sb_uses.specs.Totals.{IdsApart, width, slots_of, slots_in, slots_came, slots_gone}
 use Rattle.sb_uses.proofs.Totals.{apart_once}
 use Rattle.sb_uses.proofs.Changed.{same_found, insert_total, remove_total, put_total, set_total, move_total}
 
@@ -21,9 +20,6 @@ as_long : (os : List Opd) (j : ℕ) (o : Opd) → length (slice_set os j o) ≡ 
 as_long [] j o = refl
 as_long (p ∷ os) zero o = refl
 as_long (p ∷ os) (suc j) o = ap suc (as_long os j o)
-
-abbrev width : Inst → ℕ
-width i = length i.opds
 
 pub slots_part : (m : Module) → IdsApart m → (x : Id) (s : Standing) → found m x ≡ Some s → length s.inst.opds ≤ slots_of m
 slots_part m apart x s e = let sum = remove_total width m x s (apart_once m apart) e in omega (arith, sum)

@@ -11,3 +11,4 @@ pub mod Totals
 pub mod Changed
 pub mod Exact
 pub mod Counted
+pub mod AsRead

@@ -8,3 +8,4 @@ pub mod Spots
 pub mod Stock
 pub mod StockAfter
 pub mod Totals
+pub mod Lifting

@@ -29,9 +29,13 @@ total_of_funcs w (f ∷ fs) = total_of_blocks w f.blocks + total_of_funcs w fs
 abbrev pub total : (Inst → ℕ) → Module → ℕ
 total w m = total_of_funcs w (funcs_of m.items)
 
+-- how many slots an instruction holds
+abbrev pub width : Inst → ℕ
+width i = length i.opds
+
 -- how many slots the instructions of a module hold
 abbrev pub slots_of : Module → ℕ
-slots_of m = total (λ i. length i.opds) m
+slots_of m = total width m
 
 abbrev pub slots_in : Option Standing → ℕ
 slots_in None = 0

@@ -14,6 +14,7 @@ mod chains;
 mod entering;
 mod kept;
 mod laws;
+mod lifting;
 mod listing;
 mod slots;
 #[cfg(test)]
