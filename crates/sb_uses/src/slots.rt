@@ -9,6 +9,7 @@ ghost use Rattle.std.specs.Prelude.{◌≡◌, ◌≤◌, ◌<◌, ◌+◌, List
 ghost use Rattle.ir_types.specs.declared.opd.Opd.{Opd};
 ghost use Rattle.ir_types.specs.declared.id.Id.{Id};
 ghost use Rattle.sb_uses.specs.Chains.{lists};
+ghost use Rattle.sb_uses.specs.Places.{is_some_use};
 ghost use Rattle.sb_uses.specs.Stock.{HasSlot, HasSlots, LacksSlot, LacksSlots, stock, spare, added, taken, withdrawn, restored, replaced, set_back, slot_added, slot_taken, slot_withdrawn, slot_restored, CanRestoreSlot, CanRestore, CanSetBack};
 
 use crate::UseLists;
@@ -195,6 +196,13 @@ impl Slots {
         ensures room { spare self.old ≤ spare self.new }
     {
         self.kept.clear();
+    }
+
+    /// Whether a value has a use.
+    pub fn is_used(&self, value: Id) -> bool
+        ensures { result ≡ is_some_use ((stock self.now).lists value) }
+    {
+        self.lists.is_used(value)
     }
 
     /// The uses of a value, newest first.

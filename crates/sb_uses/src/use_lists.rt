@@ -10,7 +10,7 @@ ghost use Rattle.ir_types.specs.declared.id.Id.{Id};
 ghost use Rattle.vx_view.specs.Uses.{added, taken};
 ghost use Rattle.vx_view.specs.UsesAfter.{with_list};
 ghost use Rattle.sb_uses.specs.Chains.{lists, room};
-ghost use Rattle.sb_uses.specs.Places.{has, put};
+ghost use Rattle.sb_uses.specs.Places.{has, put, is_some_use};
 ghost use Rattle.sb_uses.specs.Spots.{Keeps, CanPutBack};
 ghost use Rattle.sb_uses.specs.Stock.{stood_after};
 
@@ -111,6 +111,14 @@ impl UseLists {
         ensures keeps { Keeps self.old self.new }
     {
         self.chains.link(value, spot.newer, used);
+    }
+
+    /// Whether a value has a use.
+    pub fn is_used(&self, value: Id) -> bool
+        ensures { result ≡ is_some_use (lists self.now value) }
+    {
+        let _ = &self.alloc;
+        self.chains.older(value, None).is_some()
     }
 
     /// The uses of a value, newest first.
