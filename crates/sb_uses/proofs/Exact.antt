@@ -19,7 +19,8 @@ use Rattle.vx_view.specs.Changes.{moved, applied, Fits}
 use Rattle.vx_view.specs.Uses.{Lists, same_use, times, taken, IsExact}
 use Rattle.vx_view.specs.UsesAfter.{opd_added, opd_taken, all_added, all_taken, without_uses, without_slot, slot_taken, lists_after}
 use Rattle.sb_uses.specs.Places.{has}
-use Rattle.sb_uses.specs.Stock.{slot_use, HasSlot, LacksSlot, HasSlots, LacksSlots}
+use Rattle.sb_uses.specs.Whole.{Apart}
+use Rattle.sb_uses.specs.Stock.{AllApart, slot_use, HasSlot, LacksSlot, HasSlots, LacksSlots}
 use Rattle.sb_uses.specs.Totals.{total_in, total_of_blocks, total_of_funcs, total, IdsApart}
 use Rattle.sb_uses.proofs.Segments.{use-is, use-itself}
 use Rattle.sb_uses.proofs.Stocks.{at-list}
@@ -450,3 +451,22 @@ module _ (m : Module) (lists : Lists) (apart : IdsApart m) (exact : IsExact m li
           times_lacks (slot_use x slot) (opd_taken x slot old lists v) (omega (arith, most, one, all, own, went))
       first (Lit l) = tt
       first (Sym g) = tt
+
+-- ---- lists that are exact have no use twice
+
+apart_list : (us : List Use) → ((u : Use) → times u us ≤ 1) → Apart us
+apart_list [] h = tt
+apart_list (x ∷ xs) h = (times_lacks x xs own, apart_list xs (λ u. rest u (h u)))
+  where
+    own : times x xs ≡ 0
+    own = let le = h x in let at : times x (x ∷ xs) ≡ 1 + times x xs = ap (λ b. cond b (1 + times x xs) (times x xs)) (use-itself x) in omega (arith, le, at)
+
+    rest : (u : Use) → cond (same_use x u) (1 + times u xs) (times u xs) ≤ 1 → times u xs ≤ 1
+    rest u le = by_test (same_use x u) le
+      where
+        by_test : (b : Bool) → cond b (1 + times u xs) (times u xs) ≤ 1 → times u xs ≤ 1
+        by_test true e = omega (arith, e)
+        by_test false e = e
+
+pub exact_apart : (m : Module) (lists : Lists) → IsExact m lists → AllApart lists
+exact_apart m lists exact v = apart_list (lists v) (exact.once v)

@@ -12,3 +12,4 @@ pub mod Changed
 pub mod Exact
 pub mod Counted
 pub mod AsRead
+pub mod Undoing

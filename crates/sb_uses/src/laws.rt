@@ -13,7 +13,7 @@ ghost use Rattle.vx_view.specs.Changes.{applied, Fits};
 ghost use Rattle.vx_view.specs.Uses.{Lists, IsExact};
 ghost use Rattle.vx_view.specs.UsesAfter.{opd_taken, all_taken, lists_after};
 ghost use Rattle.sb_uses.specs.Stock.{Stock, HasSlot, LacksSlot, HasSlots, LacksSlots};
-ghost use Rattle.sb_uses.specs.StockAfter.{stock_after};
+ghost use Rattle.sb_uses.specs.StockAfter.{stock_after, stock_undone, CanUndo};
 ghost use Rattle.sb_uses.specs.Totals.{IdsApart, slots_of, slots_came, slots_gone};
 
 /// The ids of a formed module are apart, and changes that fit keep them apart.
@@ -49,4 +49,10 @@ pub fn slots_are_counted()
 /// What a change makes of use lists with what is kept has the lists after the change.
 pub fn stocks_have_the_lists()
     ensures { (m : Module) (c : Change) (s : Stock) → IdsApart m → Fits m c → (stock_after m c s).lists ≡ lists_after m c s.lists }
+{}
+
+/// What a change that fits makes of use lists is taken back: every list is in its order again, and what was kept before is kept.
+pub fn stocks_are_undone()
+    ensures back { (m : Module) (c : Change) (s : Stock) → IdsApart m → IsExact m s.lists → Fits m c → stock_undone m c (stock_after m c s) ≡ s }
+    ensures can { (m : Module) (c : Change) (s : Stock) → IdsApart m → IsExact m s.lists → Fits m c → CanUndo m c (stock_after m c s) }
 {}

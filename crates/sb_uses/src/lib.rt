@@ -23,7 +23,7 @@ mod use_lists;
 
 pub use laws::{
     ids_stay_apart, lists_stay_exact, operands_are_listed, others_are_not_listed,
-    slots_are_counted, stocks_have_the_lists,
+    slots_are_counted, stocks_are_undone, stocks_have_the_lists,
 };
 pub use slots::Slots;
 pub use use_lists::{Spot, UseLists};
