@@ -1,5 +1,5 @@
 -- What each kind of change makes of use lists is taken back.
-use Rattle.std.proofs.Common.{◌≡◌, refl, sym, ap, ◌∙◌, subst, ℕ, Option, None, Some, List, slice_get}
+use Rattle.std.proofs.Common.{◌≡◌, refl, sym, ap, ◌∙◌, subst, ℕ, Some, slice_get}
 use Rattle.ir_types.specs.declared.id.Id.{Id}
 use Rattle.ir_types.specs.declared.opd.Opd.{Opd}
 use Rattle.ir_types.specs.declared.module.Module.{Module}
@@ -9,8 +9,7 @@ use Rattle.vx_view.specs.declared.change.Change.TheVariants.{Insert, Remove, Mov
 use Rattle.vx_view.specs.Answers.{found, Standing}
 use Rattle.vx_view.specs.Changes.{Fits}
 use Rattle.vx_view.specs.Uses.{IsExact}
-use Rattle.sb_uses.specs.Stock as st
-use Rattle.sb_uses.specs.Stock.{Stock, HasSlot, HasSlots, withdrawn, restored, replaced, set_back, CanRestore, CanSetBack}
+use Rattle.sb_uses.specs.Stock.{Stock, HasSlots, restored, replaced, set_back, CanRestore, CanSetBack}
 use Rattle.sb_uses.specs.StockAfter.{stock_without, slot_replaced, slot_set, stock_after, opds_of, stock_undone, CanUndo}
 use Rattle.sb_uses.specs.Totals.{IdsApart}
 use Rattle.sb_uses.proofs.Stocks.{added-back, added-has, taken-back, taken-can, replaced-back, replaced-can}
