@@ -5,3 +5,11 @@ pub mod Keeping
 pub mod Entered
 pub mod Walking
 pub mod Steps
+pub mod Stocks
+pub mod Holdings
+pub mod Totals
+pub mod Changed
+pub mod Exact
+pub mod Counted
+pub mod AsRead
+pub mod Undoing

@@ -1,5 +1,5 @@
 -- What the slots of whole lists need and keep, step by step.
-use Rattle.std.proofs.Common.{◌≡◌, refl, sym, ap, ◌∙◌, subst, Bool, true, false, Option, None, Some, IfSome, List, [], ◌∷◌, cond}
+use Rattle.std.proofs.Common.{◌≡◌, refl, sym, ap, ◌∙◌, subst, Bool, true, false, Option, None, Some, IfSome, is_some, List, [], ◌∷◌, cond}
 use Rattle.std.specs.HashMap.{get}
 use Rattle.ir_types.specs.declared.id.Id.{Id}
 use Rattle.ir_types.specs.declared.id.Use.{Use}
@@ -12,7 +12,7 @@ use Rattle.sb_uses.specs.declared.chains.Chains.{Chains}
 use Rattle.sb_uses.specs.declared.use_lists.Spot.{Spot}
 use Rattle.sb_uses.specs.Spots.{CanPutBack}
 use Rattle.sb_uses.specs.Chains.{next, prev, known, lists, same_held, slot_of, there, newest_of, older_of}
-use Rattle.sb_uses.specs.Places.{has, stands, put}
+use Rattle.sb_uses.specs.Places.{has, stands, put, is_some_use}
 use Rattle.sb_uses.specs.Linking.{IsLinked, IsUnlinked}
 use Rattle.sb_uses.specs.Entering.{IsEntered}
 use Rattle.sb_uses.specs.Whole.{Seg, IsWhole}
@@ -149,3 +149,11 @@ added-lists s r m t v u e w is lacks k link x =
   where
     same : (y : Id) → lists m y ≡ lists r y
     same = same-lists s r m e w is
+
+-- the head names a use where the list has one
+pub used : (s : Chains) (v : Id) → IsWhole s v → is_some (next s v None) ≡ is_some_use (lists s v)
+used s v w = go (lists s v) w.seg
+  where
+    go : (us : List Use) → Seg (next s v) (prev s v) (known s v) None us → is_some (next s v None) ≡ is_some_use us
+    go [] seg = ap is_some seg
+    go (u ∷ us) seg = ap is_some seg.0.0

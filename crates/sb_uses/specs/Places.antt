@@ -12,6 +12,11 @@ abbrev pub has : Use → List Use → Bool
 has u [] = false
 has u (v ∷ vs) = cond (same_use v u) true (has u vs)
 
+-- the list has a use
+abbrev pub is_some_use : List Use → Bool
+is_some_use [] = false
+is_some_use (u ∷ us) = true
+
 -- the place after a newer neighbour is in the list; none stands for the head
 abbrev pub stands : Option Use → List Use → Bool
 stands None us = true

@@ -10,8 +10,9 @@ ghost use Rattle.ir_types.specs.declared.id.Id.{Id};
 ghost use Rattle.vx_view.specs.Uses.{added, taken};
 ghost use Rattle.vx_view.specs.UsesAfter.{with_list};
 ghost use Rattle.sb_uses.specs.Chains.{lists, room};
-ghost use Rattle.sb_uses.specs.Places.{has, put};
+ghost use Rattle.sb_uses.specs.Places.{has, put, is_some_use};
 ghost use Rattle.sb_uses.specs.Spots.{Keeps, CanPutBack};
+ghost use Rattle.sb_uses.specs.Stock.{stood_after};
 
 use crate::chains::Chains;
 use ir_types::{Id, OutOfMemory, Use, Uses};
@@ -92,6 +93,7 @@ impl UseLists {
         requires { has used (lists self.old value) ≡ true }
         ensures now { (x : Id) → lists self.new x ≡ with_list value (taken used (lists self.old value)) (lists self.old) x }
         ensures back { (x : Id) → with_list value (put result.newer used (lists self.new value)) (lists self.new) x ≡ lists self.old x }
+        ensures spot { result.newer ≡ stood_after used (lists self.old value) }
         ensures can { CanPutBack self.new value used result }
         ensures room { room self.new ≡ room self.old }
         ensures keeps { Keeps self.old self.new }
@@ -109,6 +111,14 @@ impl UseLists {
         ensures keeps { Keeps self.old self.new }
     {
         self.chains.link(value, spot.newer, used);
+    }
+
+    /// Whether a value has a use.
+    pub fn is_used(&self, value: Id) -> bool
+        ensures { result ≡ is_some_use (lists self.now value) }
+    {
+        let _ = &self.alloc;
+        self.chains.older(value, None).is_some()
     }
 
     /// The uses of a value, newest first.
