@@ -18,7 +18,8 @@ use Rattle.ir_forms.specs.Pieces.{SpellsTy, Integer, Pointer, Vector}
 use Rattle.ir_line.specs.Headers.{span, depth_after, goes_on, attrs_len, is_banned, ty_len, name_of, behind_name, param, attributed, param_at, params_within, params_at, is_callee, name_from, last_tokens, whole, ret_of, head_of}
 use Rattle.ir_forms.proofs.Parts.{ty_takes, NoTy, ty_not}
 use Rattle.ir_forms.proofs.Steps.{nothing, apart}
-use Rattle.rf_text.specs.KeptParts.{are_passed, are_attributes}
+use Rattle.ir_types.specs.HeaderWords.{are_attributes}
+use Rattle.rf_text.proofs.KeptWords.{are_passed}
 use Rattle.rf_text.proofs.HeadsTypes.{is_quiet}
 
 pub words_append : (line : List ℕ) (ts us : List Token) → words line (ts ++ us) ≡ words line ts ++ words line us

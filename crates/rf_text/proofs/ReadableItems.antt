@@ -45,7 +45,7 @@ use Rattle.ir_types_check.proofs.ReadTops.{global_part, draft_globals, draft_top
 use Rattle.ir_types_check.proofs.ReadNames.{onto}
 use Rattle.ir_types_check.proofs.ReadModule.{EachItem, IsFineLine, IsFineItem, IsFineName, IsFuncOf, IsItemOf}
 use Rattle.rf_text.specs.Headed.{is_local_name, is_returned, is_written, IsParam, IsHead}
-use Rattle.rf_text.specs.KeptParts.{IsKeptPart, IsBefore}
+use Rattle.ir_types.specs.KeptParts.{IsKeptPart, IsBefore}
 use Rattle.rf_text.specs.Shown.{is_call}
 use Rattle.ir_types.specs.Formed.{IsPoisonIfPointer}
 use Rattle.rf_text.specs.ModuleForms.{kept_at}
