@@ -20,11 +20,16 @@ abbrev pub IsSoundOpd : Ty → Written → Type 0
 IsSoundOpd t (Lit literal) = (literal.ty ≡ t) × IsLiteral literal
 IsSoundOpd t _ = Unit {0}
 
--- what is returned is of some type, and a `switch` has no cases yet; a call fits its callee or not; all others are typed
+abbrev pub IsValueTy : Option Ty → Type 0
+IsValueTy None = ⊥
+IsValueTy (Some t) = is_value t ≡ true
+
+-- what is returned is of some type, and a `switch` has no cases yet; a call gives nothing or a value and takes values, each with its
+-- attributes, whether these are what its callee takes or not; all others are typed
 abbrev pub IsSoundOp : Op → Ty → List (Option Ty) → Type 0
 IsSoundOp Ret t tys = (t ≡ Void) × ((tys ≡ []) ⊎ ((u : Ty) × (is_value u ≡ true) × (tys ≡ Some u ∷ [])))
 IsSoundOp (Switch other cases to) t tys = (w : ℕ) × (is_width w ≡ true) × (t ≡ Void) × (tys ≡ Some (Int w) ∷ [])
-IsSoundOp (Call site) t tys = length site.attrs ≡ length tys
+IsSoundOp (Call site) t tys = ((t ≡ Void) ⊎ (is_value t ≡ true)) × All IsValueTy tys × (length site.attrs ≡ length tys)
 IsSoundOp op t tys = IsTyped Void op t tys
 
 abbrev pub written_types : List Arg → List (Option Ty)
@@ -66,7 +71,3 @@ IsSoundLine _ = Unit {0}
 abbrev pub IsCallLine : Line → Type 0
 IsCallLine (lines.Stmt s) = IsCallOp s.op
 IsCallLine _ = ⊥
-
--- each line is sound but a call, of which nothing is said here
-abbrev pub IsSoundUncalled : Line → Type 0
-IsSoundUncalled l = IsCallLine l ⊎ IsSoundLine l

@@ -9,7 +9,7 @@ use Rattle.ir_draft.specs.declared.stmt.Stmt.{Stmt}
 use Rattle.ir_draft.specs.declared.line.Line.{Line}
 use Rattle.ir_draft.specs.declared.line.Line.TheVariants as line
 use Rattle.ir_line.specs.Body.{Spells}
-use Rattle.ir_line.specs.Sound.{IsCallOp, IsCallLine, IsSoundUncalled}
+use Rattle.ir_line.specs.Sound.{IsCallOp, IsCallLine, IsSoundLine}
 use Rattle.ir_line.proofs.BodyLines.{body_spelled}
 use Rattle.ir_line.proofs.SoundLines.{sound_line}
 use Rattle.ir_line.proofs.WholeLines.{IsWholeLine, whole_line}
@@ -121,7 +121,7 @@ neither false b e = refl
 
 -- a line inside a function that has a form
 pub record Inside (form : Line) : Type 0 where
-  pub sound : IsSoundUncalled form
+  pub sound : IsSoundLine form
   pub whole : IsCallLine form ⊎ IsWholeLine form
 
 inside_form : (l : List ℕ) (form : Line) → form_in true l ≡ Some form → Inside form

@@ -41,7 +41,8 @@ use Rattle.rf_text.proofs.KeptWords.{are_passed, same_passed, all_ascii}
 use Rattle.rf_text.specs.Headed.{is_local_name, is_returned, is_shown, IsHeaded, header_line, shown_param, shown_params, shown_head, first_name, HeaderAgain}
 use Rattle.rf_text.proofs.HeadWords.{pieces_sound, pieces_stop, Parts, pieces_stand, spaced_stands, span_stands}
 use Rattle.rf_text.proofs.HeadsTypes.{is_quiet, TyText, ty_facts, value_facts, value_spelled}
-use Rattle.rf_text.proofs.HeadsRead.{words_append, SpellsRet, NoValue, Valued, ReadsParams, LastParam, MoreParams, param_reads, params_read, ty_no_close, head_reads}
+use Rattle.ir_line.specs.CallSpelling.{SpellsRet, NoValue, Valued}
+use Rattle.rf_text.proofs.HeadsRead.{words_append, ReadsParams, LastParam, MoreParams, param_reads, params_read, ty_no_close, head_reads}
 use Rattle.rf_text.proofs.HeadsPrinted.{more_pieces, params_pieces, tail_pieces, inner_pieces, brace, line_pieces, header_feed, inner_are, Shown, AreShown, are_shown, ShownLocal, local_is, name_texts, local_texts}
 use Rattle.rf_text.proofs.Kept.{has_form}
 

@@ -36,8 +36,9 @@ use Rattle.rf_text.proofs.KeptWords.{are_passed, same_passed, all_ascii}
 use Rattle.rf_text.specs.Headed.{is_local_name, is_returned, IsParam, is_written, IsHead}
 use Rattle.rf_text.proofs.Kept.{Formed, formed}
 use Rattle.rf_text.proofs.HeadWords.{span_stands}
-use Rattle.rf_text.proofs.HeadsRead.{words_append, callee_front, passed_front, ret_is}
-use Rattle.rf_text.proofs.HeadsTyped.{spelled_value, ret_quiet, ret_size, ret_returned, Ends, ret_ends}
+use Rattle.ir_line.proofs.Returns.{ret_is, ret_size, Ends, ret_ends}
+use Rattle.rf_text.proofs.HeadsRead.{words_append, callee_front, passed_front}
+use Rattle.rf_text.proofs.HeadsTyped.{spelled_value, ret_quiet, ret_returned}
 
 -- ---- tokens that stand one behind the other in a line
 

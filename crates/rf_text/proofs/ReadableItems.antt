@@ -126,7 +126,7 @@ module _ (names : List (List ℕ)) (other : Bool) where
   line_is : (form : Line) → IsReadForm form → IsAllowedLine names form → IsFineLine IsLocal IsFreeStmt IsFree free_args form
   line_is (line.Label name) r a = elim r.plain [ inl c ↦ absurd c | inr p ↦ p ]
   line_is (line.Stmt s) r a = record {
-    sound = elim r.sound [ inl c ↦ absurd (a.0 c) | inr x ↦ x ];
+    sound = r.sound;
     plain = plain r.plain;
     uncalled = a.0;
     args = all_free s.args (plain r.plain).poison a.1;
