@@ -79,13 +79,13 @@ longest_taken t n (w ∷ ws) x e =
 longest_takes : (t : Ty) (n k : ℕ) (ws : Words) (o : Written) → k < length ws → SpellsOperand t o (drop k ws) [] → ((m : ℕ) (p : Written) → m < k → SpellsOperand t p (drop m ws) [] → ⊥) → operand_from t n ws ≡ Some (n + k, o)
 longest_takes t n k [] o l s longest = absurd (omega (arith, l))
 longest_takes t n zero (w ∷ ws) o l s longest = let same : n ≡ n + 0 = omega arith in rw (whole_takes t (w ∷ ws) o s) (ap (λ (x : ℕ). Some (x, o)) same)
-longest_takes t n (suc k) (w ∷ ws) o l s longest = here (whole_operand (operand_at t (w ∷ ws))) refl where
-  more : operand_from t (n + 1) ws ≡ Some (n + suc k, o)
-  more = let same : n + 1 + k ≡ n + suc k = omega arith in longest_takes t (n + 1) k ws o (omega (arith, l)) s (λ m p less q. longest (suc m) p (omega (arith, less)) q) ∙ ap (λ (x : ℕ). Some (x, o)) same
-
-  here : (r : Option Written) → whole_operand (operand_at t (w ∷ ws)) ≡ r → operand_from t n (w ∷ ws) ≡ Some (n + suc k, o)
-  here (Some p) e = absurd (longest 0 p (omega arith) (whole_taken t (w ∷ ws) p e))
-  here None e = rw e more
+longest_takes t n (suc k) (w ∷ ws) o l s longest =
+    let same : n + 1 + k ≡ n + suc k = omega arith in
+    here (whole_operand (operand_at t (w ∷ ws))) refl (longest_takes t (n + 1) k ws o (omega (arith, l)) s (λ m p less q. longest (suc m) p (omega (arith, less)) q) ∙ ap (λ (x : ℕ). Some (x, o)) same)
+  where
+    here : (r : Option Written) → whole_operand (operand_at t (w ∷ ws)) ≡ r → operand_from t (n + 1) ws ≡ Some (n + suc k, o) → operand_from t n (w ∷ ws) ≡ Some (n + suc k, o)
+    here (Some p) e more = absurd (longest 0 p (omega arith) (whole_taken t (w ∷ ws) p e))
+    here None e more = rw e more
 
 -- ---- one argument
 
@@ -144,8 +144,9 @@ argument_read line ts a s =
     let some : length s.kept < length (words line rest) =
     (let l : length (drop (length s.kept) (words line rest)) ≡ length (words line s.value) = ap length back in
     omega (arith, l, operand_shorter s.operand, length-drop (length s.kept) (words line rest))) in
-    let found : operand_from t 0 (words line rest) ≡ Some (0 + length s.kept, a.0.opd) =
-    longest_takes t 0 (length s.kept) (words line rest) a.0.opd some (subst (λ (x : Words). SpellsOperand t a.0.opd x []) (sym back) s.operand) s.longest in
+    let none_before : 0 + length s.kept ≡ length s.kept = omega arith in
+    let found : operand_from t 0 (words line rest) ≡ Some (length s.kept, a.0.opd) =
+    longest_takes t 0 (length s.kept) (words line rest) a.0.opd some (subst (λ (x : Words). SpellsOperand t a.0.opd x []) (sym back) s.operand) s.longest ∙ ap (λ (k : ℕ). Some (k, a.0.opd)) none_before in
     let kept : take (length s.kept) rest ≡ s.kept = take-append_seam s.kept s.value in
     rw (typed, skip, found, kept, s.attributes) (ap (λ (x : List ℕ). Some (a.0, x)) (sym s.text))
 
@@ -223,16 +224,16 @@ no_type : NoTy (codes ")")
 unfolding width_of
 no_type = record { width = refl; pointer = refl; vector = refl }
 
--- no argument begins with `)`
-not_closed : {line : List ℕ} {i : Arguments} {ts rest : List Token} → SpellsArguments line i ts rest → is_first (codes ")") (words line ts) ≡ false
-not_closed {line} (LastArgument a own close rest s w e) = begins line own a s (close ∷ rest)
-not_closed {line} (MoreArguments a i own comma us rest s w e more) = begins line own a s (comma ∷ us)
-
 begins : (line : List ℕ) (own : List Token) (a : Arg × List ℕ) → SpellsArgument line a own → (more : List Token) → is_first (codes ")") (words line (own ++ more)) ≡ false
 begins line own a s more =
     let rest : List Token = (s.kept ++ s.value) ++ more in
     let same : own ++ more ≡ s.type ++ rest = ap (λ (x : List Token). x ++ more) s.whole ∙ append_assoc s.type (s.kept ++ s.value) more in
     ap (λ (x : List Token). is_first (codes ")") (words line x)) same ∙ ap (is_first (codes ")")) (words_append line s.type rest) ∙ ty_not (codes ")") no_type (type_more (words line rest) s.typed)
+
+-- no argument begins with `)`
+not_closed : {line : List ℕ} {i : Arguments} {ts rest : List Token} → SpellsArguments line i ts rest → is_first (codes ")") (words line ts) ≡ false
+not_closed {line} (LastArgument a own close rest s w e) = begins line own a s (close ∷ rest)
+not_closed {line} (MoreArguments a i own comma us rest s w e more) = begins line own a s (comma ∷ us)
 
 -- ---- behind the `(`
 

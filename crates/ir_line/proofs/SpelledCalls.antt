@@ -43,13 +43,13 @@ symbol_found from d n (t ∷ ts) e =
     (λ here same. record { count = 0; is = sym (some_is same) ∙ omega arith; within = omega arith; unnamed = (both_true (nat_eq d 0) _ here).0 })
     (λ other e2. cond_then (nat_eq d 0 && bytes_eq t (codes ")")) _ _ _ e2
     (λ _ none. nothing none)
-    (λ open e3.
+    (λ no_close e3.
     let next : NamedAt (depth_after d t) ts (from + 1) n = symbol_found (from + 1) (depth_after d t) n ts e3 in
     record {
       count = suc next.count;
       is = next.is ∙ omega arith;
       within = omega (arith, next.within);
-      unnamed = rw (or_none (nat_eq d 0) (is_some (symbol_of t)) (bytes_eq t (codes ")")) other open) next.unnamed;
+      unnamed = rw (or_none (nat_eq d 0) (is_some (symbol_of t)) (bytes_eq t (codes ")")) other no_close) next.unnamed;
     }))
 
 symbol_behind : (from d : ℕ) (ws : Words) (s : List ℕ) (name : List ℕ) (rest : Words) → are_unnamed d ws ≡ true → symbol_of s ≡ Some name → symbol_from from d (ws ++ s ∷ rest) ≡ Some (from + length ws)
@@ -70,14 +70,14 @@ record Behind (line : List ℕ) (name : Option (List ℕ)) (tail ts : List Token
   pre : List Token
   type : List Token
   symbol : Token
-  open : Token
+  paren : Token
   inside : List Token
   post : List Token
-  whole : ts ≡ (pre ++ type) ++ (symbol ∷ open ∷ inside)
+  whole : ts ≡ (pre ++ type) ++ (symbol ∷ paren ∷ inside)
   unnamed : are_unnamed 0 (words line (pre ++ type)) ≡ true
   returned : SpellsRet ret (words line type)
   named : symbol_of (word line symbol) ≡ Some callee
-  opens : word line open ≡ codes "("
+  opens : word line paren ≡ codes "("
   arguments : SpellsInside line found inside post
   gives : names_result name ret ≡ true
   follows : may_follow (words line post) ≡ true
@@ -86,11 +86,11 @@ record Behind (line : List ℕ) (name : Option (List ℕ)) (tail ts : List Token
 -- a token that says a plain symbol, and another that opens the arguments
 record Called (line : List ℕ) (ts : List Token) (callee : List ℕ) (i : Arguments × List Token) : Type 0 where
   symbol : Token
-  open : Token
+  paren : Token
   inside : List Token
-  whole : ts ≡ symbol ∷ open ∷ inside
+  whole : ts ≡ symbol ∷ paren ∷ inside
   named : symbol_of (word line symbol) ≡ Some callee
-  opens : word line open ≡ codes "("
+  opens : word line paren ≡ codes "("
   arguments : SpellsInside line i.0 inside i.1
 
 callee_found : (line : List ℕ) (ts : List Token) (f : List ℕ × Words) (i : Arguments × List Token) → one symbol_of (words line ts) ≡ Some f → arguments_at line (drop 1 ts) ≡ Some i → Called line ts f.0 i
@@ -99,7 +99,7 @@ callee_found line [] f i ef ei = nothing ef
 callee_found line (s ∷ []) f i ef ei = nothing ei
 callee_found line (s ∷ o ∷ ts) f i ef ei =
     let inside : (word line o ≡ codes "(") × SpellsInside line i.0 ts i.1 = inside_spelled line o ts i ei in
-    record { symbol = s; open = o; inside = ts; whole = refl; named = says (symbol_of (word line s)) refl; opens = inside.0; arguments = inside.1 }
+    record { symbol = s; paren = o; inside = ts; whole = refl; named = says (symbol_of (word line s)) refl; opens = inside.0; arguments = inside.1 }
   where
     says : (r : Option (List ℕ)) → symbol_of (word line s) ≡ r → symbol_of (word line s) ≡ Some f.0
     says r er = bind_then (symbol_of (word line s)) _ f ef (λ a ea same. ea ∙ ap Some (ap (λ (z : List ℕ × Words). z.0) (some_is same)))
@@ -137,7 +137,7 @@ behind_spelled line x tail ts l e =
     let both : pre ++ r.type ≡ take n ts = ap (λ (k : ℕ). take (k - ty_len t) (take n ts) ++ r.type) (sym size) ∙ r.whole in
     let own : take (n - ty_len t) ts ≡ pre = shorter (n - ty_len t) n ts (omega arith) in
     let ok : (names_result x t ≡ true) × (may_follow (words line i.1) ≡ true) = both_true (names_result x t) _ allowed in
-    let counted : n ≡ at.count = at.is in
+    let counted : n ≡ at.count = omega (arith, at.is) in
     record {
       ret = t;
       callee = f.0;
@@ -145,7 +145,7 @@ behind_spelled line x tail ts l e =
       pre = pre;
       type = r.type;
       symbol = c.symbol;
-      open = c.open;
+      paren = c.paren;
       inside = c.inside;
       post = i.1;
       whole = sym (take-append-drop n ts) ∙ ap (λ (u : List Token). u ++ drop n ts) (sym both) ∙ ap (λ (u : List Token). (pre ++ r.type) ++ u) c.whole;
@@ -169,18 +169,18 @@ behind_read : (line : List ℕ) (x : Option (List ℕ)) (tail ts : List Token) (
 unfolding call_behind
 behind_read line x tail ts l b =
     let front : List Token = b.pre ++ b.type in
-    let rest : List Token = b.symbol ∷ b.open ∷ b.inside in
+    let rest : List Token = b.symbol ∷ b.paren ∷ b.inside in
     let k : ℕ = length front in
-    let all_words : words line ts ≡ words line front ++ (word line b.symbol ∷ words line (b.open ∷ b.inside)) = ap (words line) b.whole ∙ words_append line front rest in
-    let count : 0 + length (words line front) ≡ k = length-map front (word line) in
+    let all_words : words line ts ≡ words line front ++ (word line b.symbol ∷ words line (b.paren ∷ b.inside)) = ap (words line) b.whole ∙ words_append line front rest in
+    let count : 0 + length (words line front) ≡ k = omega (arith, length-map front (word line)) in
     let found : symbol_from 0 0 (words line ts) ≡ Some k =
-    ap (symbol_from 0 0) all_words ∙ symbol_behind 0 0 (words line front) (word line b.symbol) b.callee (words line (b.open ∷ b.inside)) b.unnamed b.named ∙ ap Some count in
+    ap (symbol_from 0 0) all_words ∙ symbol_behind 0 0 (words line front) (word line b.symbol) b.callee (words line (b.paren ∷ b.inside)) b.unnamed b.named ∙ ap Some count in
     let back : drop k ts ≡ rest = ap (drop k) b.whole ∙ drop-append_seam front rest in
     let first : take k ts ≡ front = ap (take k) b.whole ∙ take-append_seam front rest in
     let returned : ret_of line (take k ts) ≡ Some b.ret = ap (ret_of line) first ∙ ret_reads line b.ret b.pre b.type b.returned in
     let less : k - ty_len b.ret ≡ length b.pre = omega (arith, length-append b.pre b.type, length-map b.type (word line), ret_size b.returned) in
     let kept : take (k - ty_len b.ret) ts ≡ b.pre = ap (λ (n : ℕ). take n ts) less ∙ ap (take (length b.pre)) (b.whole ∙ append_assoc b.pre b.type rest) ∙ take-append_seam b.pre (b.type ++ rest) in
-    let arguments : arguments_at line (b.open ∷ b.inside) ≡ Some (b.found, b.post) = inside_read b.arguments b.open b.opens in
+    let arguments : arguments_at line (b.paren ∷ b.inside) ≡ Some (b.found, b.post) = inside_read b.arguments b.paren b.opens in
     rw (found, back, b.named, returned, arguments, b.gives, b.follows, kept) (ap Some (sym b.is))
 
 -- ---- behind the name of the result
@@ -249,7 +249,7 @@ spelled_of line x front ts l r f = record {
   pre = f.behind.pre;
   type = f.behind.type;
   symbol = f.behind.symbol;
-  open = f.behind.open;
+  paren = f.behind.paren;
   inside = f.behind.inside;
   post = f.behind.post;
   whole = ap (λ (z : List Token). front ++ z) (f.whole ∙ ap (λ (z : List Token). f.tail ++ f.call ∷ z) f.behind.whole);
@@ -281,11 +281,11 @@ call_spelled line ts l e =
         let is : a ≡ x.0 = ap (λ (z : List ℕ × Words). z.0) (some_is same) in
         spelled_of line (Some x.0) (t ∷ u ∷ []) us l (Named x.0 t u (ea ∙ ap Some is) (bytes_is (word line u) (codes "=") equals)) (for_spelled line (Some x.0) us l r))
 
-for_of : {line : List ℕ} {ts : List Token} {l : Line} → (s : SpellsCall line ts l) → For line s.name (s.tail ++ (s.call ∷ (s.pre ++ s.type) ++ (s.symbol ∷ s.open ∷ s.inside))) l
+for_of : {line : List ℕ} {ts : List Token} {l : Line} → (s : SpellsCall line ts l) → For line s.name (s.tail ++ (s.call ∷ (s.pre ++ s.type) ++ (s.symbol ∷ s.paren ∷ s.inside))) l
 for_of s = record {
   tail = s.tail;
   call = s.call;
-  rest = (s.pre ++ s.type) ++ (s.symbol ∷ s.open ∷ s.inside);
+  rest = (s.pre ++ s.type) ++ (s.symbol ∷ s.paren ∷ s.inside);
   whole = refl;
   tailed = s.tailed;
   calls = s.calls;
@@ -296,7 +296,7 @@ for_of s = record {
     pre = s.pre;
     type = s.type;
     symbol = s.symbol;
-    open = s.open;
+    paren = s.paren;
     inside = s.inside;
     post = s.post;
     whole = refl;

@@ -1,6 +1,6 @@
 -- What a call spells, as a relation: which tokens stand where in `%x = TAIL call PRE TYPE @f(ARGS) POST`.
 -- LLVM Language Reference, "'call' Instruction".
-use Rattle.std.specs.Prelude.{◌≡◌, refl, ℕ, ◌<◌, Bool, true, not, ◌&&◌, ◌||◌, Option, Some, None, List, [], ◌∷◌, ◌++◌, codes, bytes_eq, nat_eq, length, drop}
+use Rattle.std.specs.Prelude.{◌≡◌, refl, ℕ, ◌<◌, Bool, true, false, not, ◌&&◌, ◌||◌, Option, Some, None, List, [], ◌∷◌, ◌++◌, codes, bytes_eq, nat_eq, length, drop}
 use Rattle.ir_lex.specs.declared.list.Token.{Token}
 use Rattle.ir_lex.specs.Words.{word, words}
 use Rattle.ir_types.specs.declared.ty.Ty.{Ty}
@@ -79,17 +79,17 @@ pub record SpellsCall (line : List ℕ) (ts : List Token) (l : Line) : Type 0 wh
   pub pre : List Token
   pub type : List Token
   pub symbol : Token
-  pub open : Token
+  pub paren : Token
   pub inside : List Token
   pub post : List Token
-  pub whole : ts ≡ front ++ (tail ++ (call ∷ (pre ++ type) ++ (symbol ∷ open ∷ inside)))
+  pub whole : ts ≡ front ++ (tail ++ (call ∷ (pre ++ type) ++ (symbol ∷ paren ∷ inside)))
   pub result : SpellsResult line name front
   pub tailed : SpellsTail line tail
   pub calls : word line call ≡ codes "call"
   pub unnamed : are_unnamed 0 (words line (pre ++ type)) ≡ true
   pub returned : SpellsRet ret (words line type)
   pub named : symbol_of (word line symbol) ≡ Some callee
-  pub opens : word line open ≡ codes "("
+  pub opens : word line paren ≡ codes "("
   pub arguments : SpellsInside line found inside post
   -- a result is named exactly where there is one, and no bundles of operands follow
   pub gives : names_result name ret ≡ true

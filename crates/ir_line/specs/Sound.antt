@@ -1,6 +1,6 @@
 -- What a statement of the profile is like before its names are looked up: its literals are literals of the types that are written for
 -- them, and its operation, its type and the written types of its operands fit one another.
-use Rattle.std.specs.Prelude.{◌≡◌, ℕ, ◌^◌, ◌<◌, ◌⊎◌, true, Option, Some, List, [], ◌∷◌, length, map}
+use Rattle.std.specs.Prelude.{◌≡◌, ℕ, ◌^◌, ◌<◌, ◌⊎◌, true, Option, Some, None, List, [], ◌∷◌, length, map}
 use Rattle.std.specs.List.{All}
 use Rattle.ir_types.specs.declared.ty.Ty.{Ty}
 use Rattle.ir_types.specs.declared.ty.Ty.TheVariants.{Void, Int}
