@@ -224,16 +224,23 @@ for_spelled line x (t ∷ ts) l e = here (bytes_eq (word line t) (codes "tail"))
   here false true ea eb r = for_at line x 1 (t ∷ ts) l (NoTail t (bytes_is (word line t) (codes "notail") eb)) r
   here false false ea eb r = for_at line x 0 (t ∷ ts) l Untold r
 
-for_read : (line : List ℕ) (x : Option (List ℕ)) (ts : List Token) (l : Line) → For line x ts l → call_for line x ts ≡ Some l
+-- so many words of TAIL, with `call` behind them
+for_words : (line : List ℕ) (x : Option (List ℕ)) (n : ℕ) (ts tail : List Token) (c : Token) (rest : List Token) (l : Line) → tail_len (words line ts) ≡ n → take n ts ≡ tail → drop n ts ≡ c ∷ rest → word line c ≡ codes "call" →
+    call_behind line x tail rest ≡ Some l → call_for line x ts ≡ Some l
 unfolding call_for
-for_read line x ts l f = ap (call_for line x) f.whole ∙ here f.tail f.tailed f.behind where
-  read : Behind line x f.tail f.rest l → call_behind line x f.tail f.rest ≡ Some l
-  read b = behind_read line x f.tail f.rest l b
+for_words line x n ts tail c rest l size own back calls e =
+    ap (λ (k : ℕ). cond (is_first (codes "call") (words line (drop k ts))) (call_behind line x (take k ts) (drop 1 (drop k ts))) None) size
+    ∙ ap (λ (us : List Token). cond (is_first (codes "call") (words line us)) (call_behind line x (take n ts) (drop 1 us)) None) back
+    ∙ ap (λ (us : List Token). cond (bytes_eq (word line c) (codes "call")) (call_behind line x us rest) None) own
+    ∙ ap (λ (w : List ℕ). cond (bytes_eq w (codes "call")) (call_behind line x tail rest) None) calls
+    ∙ e
 
+for_read : (line : List ℕ) (x : Option (List ℕ)) (ts : List Token) (l : Line) → For line x ts l → call_for line x ts ≡ Some l
+for_read line x ts l f = ap (call_for line x) f.whole ∙ here f.tail f.tailed f.behind where
   here : (tail : List Token) → SpellsTail line tail → Behind line x tail f.rest l → call_for line x (tail ++ f.call ∷ f.rest) ≡ Some l
-  here _ Untold b = rw f.calls (behind_read line x [] f.rest l b)
-  here _ (Tail t w) b = rw (w, f.calls) (behind_read line x (t ∷ []) f.rest l b)
-  here _ (NoTail t w) b = rw (w, f.calls) (behind_read line x (t ∷ []) f.rest l b)
+  here _ Untold b = for_words line x 0 (f.call ∷ f.rest) [] f.call f.rest l (rw f.calls refl) refl refl f.calls (behind_read line x [] f.rest l b)
+  here _ (Tail t w) b = for_words line x 1 (t ∷ f.call ∷ f.rest) (t ∷ []) f.call f.rest l (rw w refl) refl refl f.calls (behind_read line x (t ∷ []) f.rest l b)
+  here _ (NoTail t w) b = for_words line x 1 (t ∷ f.call ∷ f.rest) (t ∷ []) f.call f.rest l (rw w refl) refl refl f.calls (behind_read line x (t ∷ []) f.rest l b)
 
 -- ---- the whole
 
