@@ -16,6 +16,7 @@ use Rattle.ir_line.specs.Body.{Spells, NoWord, Brace, Formed, Called, unattached
 use Rattle.ir_forms.proofs.Steps.{nothing, clash, some_is, cond_then, bytes_is}
 use Rattle.ir_forms.proofs.Trees.{form_spelled, form_read}
 use Rattle.ir_line.proofs.CallLines.{call_apart, no_token, one_token}
+use Rattle.ir_line.proofs.SpelledCalls.{call_spelled, call_read}
 
 -- no form has no word, and none is a brace
 no_words : read line_of form [] ≡ None
@@ -37,7 +38,7 @@ formed line ts l e =
     (λ ascii r. or_call_then (read line_of form (words line (unattached line ts))) (call line (unattached line ts)) l r
     (λ er. let f : (f : Form) × (l ≡ line_of f) × Spell (slots f) (words line (unattached line ts)) = form_spelled (words line (unattached line ts)) l er in
     subst (Spells line ts) (sym f.1) (Formed f.0 ascii f.2))
-    (λ ec. Called l ascii ec))
+    (λ ec. Called l ascii (call_spelled line (unattached line ts) l ec)))
     (λ _ none. nothing none)
 
 brace_is : (ts : Words) → is_brace ts ≡ true → ts ≡ codes "}" ∷ []
@@ -95,7 +96,7 @@ body_read line ts (NoWord e) = rw e refl
 body_read line [] (Brace e) = clash (sym (ap is_brace e))
 body_read line (t ∷ ts) (Brace e) = ap (λ (x : Words). cond (is_brace x) (Some Close) (read_form line (t ∷ ts))) e
 body_read line ts (Formed f ascii s) = formed_read line ts f ascii s
-body_read line ts (Called l ascii e) = called_read line ts l ascii e
+body_read line ts (Called l ascii s) = called_read line ts l ascii (call_read s)
 
 -- no line inside a function spells two forms
 pub body_once : (line : List ℕ) (ts : List Token) {l m : Line} → Spells line ts l → Spells line ts m → l ≡ m

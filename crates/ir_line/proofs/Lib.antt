@@ -2,9 +2,12 @@ pub mod Answering
 pub mod Arguments
 pub mod Bodies
 pub mod BodyLines
+pub mod CallArguments
 pub mod CallLines
 pub mod MarkedLines
 pub mod OutsideLines
+pub mod Returns
 pub mod SoundForms
 pub mod SoundLines
+pub mod SpelledCalls
 pub mod WholeLines

@@ -1,26 +1,23 @@
 -- Each line inside a function that is read is sound: its literals, types and places fit.
-use Rattle.std.proofs.Common.{◌≡◌, ℕ, ◌^◌, ◌<◌, inl, inr, true, ◌&&◌, List, [], ◌∷◌, length, Option, Some, None, refl, sym, ◌∙◌, ap, subst, codes, arith, take, drop}
+use Rattle.std.proofs.Common.{◌≡◌, ℕ, suc, ◌^◌, ◌<◌, ◌⊎◌, inl, inr, true, List, [], ◌∷◌, length, Option, Some, None, refl, sym, ◌∙◌, ap, subst, codes, arith}
 use Rattle.std.specs.List.{All}
 use Rattle.std.proofs.lemmas.List.Elements.{All-nil, All-cons}
 use Rattle.ir_lex.specs.declared.list.Token.{Token}
 use Rattle.ir_types.specs.declared.ty.Ty.{Ty}
-use Rattle.ir_types.specs.declared.ty.Ty.TheVariants.{Int, Ptr, Row}
+use Rattle.ir_types.specs.declared.ty.Ty.TheVariants.{Void, Int, Ptr, Row}
 use Rattle.ir_types.specs.Typed.{is_width, is_vector, is_number, is_value, lane_width, with_width, Converts}
 use Rattle.ir_words.specs.declared.kinds.Kind.TheVariants as kind
 use Rattle.ir_draft.specs.declared.written.Arg.{Arg}
 use Rattle.ir_draft.specs.declared.line.Line.{Line}
 use Rattle.ir_words.specs.Kinds.{bits_of}
-use Rattle.ir_words.specs.Words.{Words, is_first, one as one'}
+use Rattle.ir_words.specs.Words.{Words}
 use Rattle.ir_words.specs.Reading.{has}
-use Rattle.ir_words.specs.Values.{local_of, symbol_of}
-use Rattle.ir_line.specs.Headers.{ret_of}
-use Rattle.ir_line.specs.Calls.{call, call_for, call_behind, symbol_from, arguments_at, names_result, may_follow, behind_tail, tail_of}
+use Rattle.ir_line.specs.declared.calls.Arguments.{Arguments}
+use Rattle.ir_line.specs.CallSpelling.{SpellsRet, NoValue, Valued, SpellsArgument, SpellsArguments, LastArgument, MoreArguments, SpellsInside, NoArgument, SomeArguments, SpellsCall}
 use Rattle.ir_line.specs.Body.{Spells, NoWord, Brace, Formed, Called, unattached}
-use Rattle.ir_lex.specs.Words.{words}
 use Rattle.ir_forms.specs.Forms.{Form, Label, Choice, ChoicesEnd, Binary, Compare, Convert, Select, Extract, Insert, Shuffle, Step, StepInto, Load, Allocate, Phi, Store, Return, ReturnValue, Jump, Branch, Switch, Unreachable, slots, Spell, line_of, arg}
-use Rattle.ir_line.specs.Sound.{IsSoundOpd, IsSoundLine, IsCallLine, IsSoundUncalled}
-use Rattle.ir_forms.proofs.Steps.{nothing, bind_then, choose_then, cond_then, when_then}
-use Rattle.ir_forms.proofs.LaneValues.{number_below}
+use Rattle.ir_line.specs.Sound.{IsSoundOpd, IsSoundLine, IsCallLine, IsValueTy, written_types}
+use Rattle.ir_forms.proofs.LaneValues.{ty_value, number_below}
 use Rattle.ir_forms.proofs.TypesOfKinds as types
 use Rattle.ir_line.proofs.SoundForms as forms
 use Rattle.ir_line.proofs.SoundForms.{Fine, Shuffled, Paired}
@@ -192,30 +189,50 @@ sound_form (Switch a d) ts h =
     record { literals = one a f.literal; typed = (j.0, j.2, refl, types_1 _ _ j.1); places = omega arith }
 sound_form Unreachable ts h = record { literals = none; typed = (refl, refl); places = tt }
 
--- a call is a call
-pub call_is : (line : List ℕ) (ts : List Token) (l : Line) → call line ts ≡ Some l → IsCallLine l
-unfolding call call_for call_behind
-call_is line ts l e =
-    choose_then (one' local_of (words line ts)) _ _ l e
-    (λ x _ r. cond_then (is_first (codes "=") (words line (drop 1 ts))) _ _ _ r (λ _ q. for_is line (Some x.0) (drop 2 ts) l q) (λ _ none'. nothing none'))
-    (λ _ r. for_is line None ts l r)
-  where
-    behind_is : (line : List ℕ) (x : Option (List ℕ)) (tail ts : List Token) (l : Line) → call_behind line x tail ts ≡ Some l → IsCallLine l
-    behind_is line x tail ts l e =
-        bind_then (symbol_from 0 0 (words line ts)) _ l e (λ n _ a.
-        bind_then (one' symbol_of (words line (drop n ts))) _ l a (λ f _ b.
-        bind_then (ret_of line (take n ts)) _ l b (λ t _ c.
-        bind_then (arguments_at line (drop 1 (drop n ts))) _ l c (λ i _ d.
-        when_then (names_result x t && may_follow (words line i.1)) _ l d (λ _ same. subst IsCallLine same tt)))))
+-- ---- calls
 
-    for_is : (line : List ℕ) (x : Option (List ℕ)) (ts : List Token) (l : Line) → call_for line x ts ≡ Some l → IsCallLine l
-    for_is line x ts l e = cond_then (is_first (codes "call") (words line (behind_tail line ts))) _ _ _ e (λ _ q. behind_is line x (tail_of line ts) (drop 1 (behind_tail line ts)) l q) (λ _ none'. nothing none')
+-- what is known of the arguments of a call
+record SoundArguments (i : Arguments) : Type 0 where
+  literals : All Sound i.args
+  types : All IsValueTy (written_types i.args)
+  each : length i.attrs ≡ length (written_types i.args)
 
--- each line that is read, but a call, is sound
-pub sound_line : (line : List ℕ) (ts : List Token) (l : Line) → Spells line ts l → IsSoundUncalled l
+argument_sound : {line : List ℕ} {a : Arg × List ℕ} {ts : List Token} → SpellsArgument line a ts → Sound a.0
+argument_sound s = forms.operand (ty_value s.typed) s.operand
+
+arguments_sound : {line : List ℕ} {i : Arguments} {ts rest : List Token} → SpellsArguments line i ts rest → SoundArguments i
+arguments_sound (LastArgument a own close rest s w e) =
+    record { literals = one a.0 (argument_sound s); types = All-cons IsValueTy (Some a.0.ty) [] (ty_value s.typed) (All-nil IsValueTy); each = refl }
+arguments_sound (MoreArguments a i own comma us rest s w e more) =
+    let m : SoundArguments i = arguments_sound more in
+    record {
+      literals = All-cons Sound a.0 i.args (argument_sound s) m.literals;
+      types = All-cons IsValueTy (Some a.0.ty) (written_types i.args) (ty_value s.typed) m.types;
+      each = ap suc m.each;
+    }
+
+inside_sound : {line : List ℕ} {i : Arguments} {ts rest : List Token} → SpellsInside line i ts rest → SoundArguments i
+inside_sound (NoArgument close rest w) = record { literals = none; types = All-nil IsValueTy; each = refl }
+inside_sound (SomeArguments i ts rest s) = arguments_sound s
+
+returned_sound : {t : Ty} {ts : Words} → SpellsRet t ts → (t ≡ Void) ⊎ (is_value t ≡ true)
+returned_sound NoValue = inl refl
+returned_sound (Valued t ts s) = inr (ty_value s)
+
+-- a call is a call, and what it says fits
+pub call_is : (line : List ℕ) (ts : List Token) (l : Line) → SpellsCall line ts l → IsCallLine l
+call_is line ts l s = subst IsCallLine (sym s.is) tt
+
+call_sound : (line : List ℕ) (ts : List Token) (l : Line) → SpellsCall line ts l → IsSoundLine l
+call_sound line ts l s =
+    let i : SoundArguments s.found = inside_sound s.arguments in
+    subst IsSoundLine (sym s.is) (record { literals = i.literals; typed = (returned_sound s.returned, i.types, i.each); places = tt })
+
+-- each line that is read is sound
+pub sound_line : (line : List ℕ) (ts : List Token) (l : Line) → Spells line ts l → IsSoundLine l
 sound_line line ts l s = here s where
-  here : {l : Line} → Spells line ts l → IsSoundUncalled l
-  here (NoWord e) = inr tt
-  here (Brace e) = inr tt
-  here (Formed f ascii s) = inr (sound_form f _ s)
-  here (Called l ascii e) = inl (call_is line (unattached line ts) l e)
+  here : {l : Line} → Spells line ts l → IsSoundLine l
+  here (NoWord e) = tt
+  here (Brace e) = tt
+  here (Formed f ascii s) = sound_form f _ s
+  here (Called l ascii s) = call_sound line (unattached line ts) l s

@@ -7,6 +7,7 @@ use Rattle.ir_draft.specs.declared.line.Line.{Line}
 use Rattle.ir_draft.specs.declared.line.Line.TheVariants.{Empty, Close}
 use Rattle.ir_words.specs.Words.{Words, is_ascii}
 use Rattle.ir_line.specs.Calls.{call}
+use Rattle.ir_line.specs.CallSpelling.{SpellsCall}
 use Rattle.ir_forms.specs.Forms.{Form, slots, Spell, line_of, form}
 use Rattle.ir_forms.specs.Grammar.{read}
 
@@ -37,7 +38,7 @@ pub data Spells (line : List ℕ) (ts : List Token) : Line → Type 0 where
   -- a form of parts, in words of ASCII, behind which attachments may stand
   Formed : (f : Form) → list_all is_ascii (words line ts) ≡ true → Spell (slots f) (words line (unattached line ts)) → Spells line ts (line_of f)
   -- a call, the same
-  Called : (l : Line) → list_all is_ascii (words line ts) ≡ true → call line (unattached line ts) ≡ Some l → Spells line ts l
+  Called : (l : Line) → list_all is_ascii (words line ts) ≡ true → SpellsCall line (unattached line ts) l → Spells line ts l
 
 -- the line that the words are found to be
 abbrev pub is_brace : Words → Bool

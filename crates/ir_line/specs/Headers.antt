@@ -1,12 +1,10 @@
 -- The header of a function: what stands where between `define` and the last brace.
 -- LLVM Language Reference, "Functions" and "Parameter Attributes".
-use Rattle.std.specs.Prelude.{ℕ, suc, ◌+◌, ◌-◌, Bool, false, not, ◌&&◌, ◌||◌, cond, Option, Some, None, option_map, List, [], ◌∷◌, ◌++◌, codes, bytes_eq, nat_eq, length, take, drop}
+use Rattle.std.specs.Prelude.{ℕ, suc, ◌+◌, ◌-◌, Bool, ◌&&◌, cond, Option, Some, None, option_map, List, [], ◌∷◌, ◌++◌, codes, bytes_eq, nat_eq, length, take, drop}
 use Rattle.std.specs.List.{list_all}
-use Rattle.std.specs.Char.{is_ascii_alphabetic}
 use Rattle.vx_digits.specs.Optional.{◌>>=◌}
-use Rattle.ir_lex.specs.Bytes.{quote}
 use Rattle.ir_lex.specs.declared.list.Token.{Token}
-use Rattle.ir_lex.specs.Words.{word, words}
+use Rattle.ir_lex.specs.Words.{words}
 use Rattle.ir_types.specs.declared.ty.Ty.{Ty}
 use Rattle.ir_types.specs.declared.ty.Ty.TheVariants.{Void, Row}
 use Rattle.ir_types.specs.declared.func.Param.{Param}
@@ -14,45 +12,34 @@ use Rattle.ir_draft.specs.declared.head.Head.{Head}
 use Rattle.ir_words.specs.Values.{local_of, symbol_of, is_some}
 use Rattle.ir_words.specs.Words.{Words, one, is_first, is_ascii}
 use Rattle.ir_words.specs.Reading.{ty_at}
-use Rattle.ir_line.specs.Keeping.{is_digits}
+use Rattle.ir_types.specs.HeaderWords as header_words
 
--- the bytes from the first to the last of these tokens
+-- the words of a header are those that a formed module's kept parts are described by
 abbrev pub last_to : ℕ → List Token → ℕ
-last_to to [] = to
-last_to to (t ∷ ts) = last_to t.to ts
+last_to = header_words.last_to
 
 abbrev pub span : List ℕ → List Token → List ℕ
-span line [] = []
-span line (t ∷ ts) = word line (record { from = t.from; to = last_to t.to ts })
+span = header_words.span
 
--- how many parentheses are open behind a word, where so many were open before it
 abbrev pub depth_after : ℕ → List ℕ → ℕ
-depth_after d t = cond (bytes_eq t (codes "(")) (d + 1) (cond (bytes_eq t (codes ")")) (d - 1) d)
+depth_after = header_words.depth_after
 
--- a word of attributes outside parentheses: one that begins with a letter, a number, a string, or `=`
 abbrev pub is_attribute : List ℕ → Bool
-is_attribute [] = false
-is_attribute (b ∷ bs) = is_ascii_alphabetic b || is_digits (b ∷ bs) || nat_eq b quote || nat_eq b 61
+is_attribute = header_words.is_attribute
 
--- whether attributes go on with a word: inside parentheses with any
 abbrev pub goes_on : ℕ → List ℕ → Bool
-goes_on d t = not (nat_eq d 0) || is_attribute t || bytes_eq t (codes "(")
+goes_on = header_words.goes_on
+
+abbrev pub stands : List ℕ → ℕ → Words → Bool
+stands = header_words.stands
+
+abbrev pub is_banned : Words → Bool
+is_banned = header_words.is_banned
 
 -- how many words of attributes stand at the front
 abbrev pub attrs_len : ℕ → Words → ℕ
 attrs_len d [] = 0
 attrs_len d (t ∷ ts) = cond (goes_on d t) (suc (attrs_len (depth_after d t) ts)) 0
-
--- whether the word `v` stands outside parentheses
-abbrev pub stands : List ℕ → ℕ → Words → Bool
-stands v d [] = false
-stands v d (t ∷ ts) = nat_eq d 0 && bytes_eq t v || stands v (depth_after d t) ts
-
--- whether attributes put a header outside the profile
-abbrev pub is_banned : Words → Bool
-is_banned ts =
-    stands (codes "byval") 0 ts || stands (codes "sret") 0 ts || stands (codes "inalloca") 0 ts || stands (codes "preallocated") 0 ts || stands (codes "inreg") 0 ts
-    || stands (codes "nest") 0 ts || stands (codes "addrspace") 0 ts
 
 -- how many words a type has
 abbrev pub ty_len : Ty → ℕ

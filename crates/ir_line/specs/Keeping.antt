@@ -1,8 +1,8 @@
 -- Lines outside functions that are kept: which they are, and what is read of them.
 use Rattle.std.specs.Prelude.{ℕ, ◌-◌, Bool, true, false, not, ◌&&◌, ◌||◌, cond, Option, Some, None, List, [], ◌∷◌, codes, bytes_eq, nat_eq, length, take, reverse}
-use Rattle.std.specs.List.{list_all, prefix_len}
-use Rattle.std.specs.Char.{is_ascii_digit}
+use Rattle.std.specs.List.{prefix_len}
 use Rattle.ir_lex.specs.Bytes.{begins_name}
+use Rattle.ir_types.specs.HeaderWords as header_words
 use Rattle.ir_draft.specs.declared.kept.Kept.{Kept}
 use Rattle.ir_words.specs.Values.{symbol_of, is_some}
 use Rattle.ir_words.specs.Words.{Words, is_first, behind}
@@ -16,8 +16,7 @@ is_name (b ∷ bs) = begins_name b
 
 -- at least one digit, and digits alone
 abbrev pub is_digits : List ℕ → Bool
-is_digits [] = false
-is_digits (b ∷ bs) = list_all is_ascii_digit (b ∷ bs)
+is_digits = header_words.is_digits
 
 -- nothing, a name or a number: what stands behind the `!` of metadata
 abbrev pub is_metadata : List ℕ → Bool

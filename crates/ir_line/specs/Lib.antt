@@ -2,6 +2,7 @@
 pub mod Answers
 pub mod Body
 pub mod Calls
+pub mod CallSpelling
 pub mod Headers
 pub mod Keeping
 pub mod Outside

@@ -1,6 +1,6 @@
 -- What a statement of the profile is like before its names are looked up: its literals are literals of the types that are written for
 -- them, and its operation, its type and the written types of its operands fit one another.
-use Rattle.std.specs.Prelude.{◌≡◌, ℕ, ◌^◌, ◌<◌, ◌⊎◌, true, Option, Some, List, [], ◌∷◌, length, map}
+use Rattle.std.specs.Prelude.{◌≡◌, ℕ, ◌^◌, ◌<◌, ◌⊎◌, true, Option, Some, None, List, [], ◌∷◌, length, map}
 use Rattle.std.specs.List.{All}
 use Rattle.ir_types.specs.declared.ty.Ty.{Ty}
 use Rattle.ir_types.specs.declared.ty.Ty.TheVariants.{Void, Int}
@@ -20,11 +20,16 @@ abbrev pub IsSoundOpd : Ty → Written → Type 0
 IsSoundOpd t (Lit literal) = (literal.ty ≡ t) × IsLiteral literal
 IsSoundOpd t _ = Unit {0}
 
--- what is returned is of some type, and a `switch` has no cases yet; a call fits its callee or not; all others are typed
+abbrev pub IsValueTy : Option Ty → Type 0
+IsValueTy None = ⊥
+IsValueTy (Some t) = is_value t ≡ true
+
+-- what is returned is of some type, and a `switch` has no cases yet; a call gives nothing or a value and takes values, each with its
+-- attributes, whether these are what its callee takes or not; all others are typed
 abbrev pub IsSoundOp : Op → Ty → List (Option Ty) → Type 0
 IsSoundOp Ret t tys = (t ≡ Void) × ((tys ≡ []) ⊎ ((u : Ty) × (is_value u ≡ true) × (tys ≡ Some u ∷ [])))
 IsSoundOp (Switch other cases to) t tys = (w : ℕ) × (is_width w ≡ true) × (t ≡ Void) × (tys ≡ Some (Int w) ∷ [])
-IsSoundOp (Call site) t tys = length site.attrs ≡ length tys
+IsSoundOp (Call site) t tys = ((t ≡ Void) ⊎ (is_value t ≡ true)) × All IsValueTy tys × (length site.attrs ≡ length tys)
 IsSoundOp op t tys = IsTyped Void op t tys
 
 abbrev pub written_types : List Arg → List (Option Ty)
@@ -66,7 +71,3 @@ IsSoundLine _ = Unit {0}
 abbrev pub IsCallLine : Line → Type 0
 IsCallLine (lines.Stmt s) = IsCallOp s.op
 IsCallLine _ = ⊥
-
--- each line is sound but a call, of which nothing is said here
-abbrev pub IsSoundUncalled : Line → Type 0
-IsSoundUncalled l = IsCallLine l ⊎ IsSoundLine l

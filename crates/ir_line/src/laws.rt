@@ -19,8 +19,8 @@ pub fn one_outside_form()
     ensures { (line : List ℕ) → (t : List Token) → (l m : Line) → outside.Spells line t l → outside.Spells line t m → l ≡ m }
 {}
 
-/// What a line inside a function says fits, but where it is a call, of which only its callee's header tells: literals are of their types,
-/// and types, operations and operands go together.
+/// What a line inside a function says fits: literals are of their types, and types, operations and operands go together. Whether a call
+/// fits its callee, the callee's header tells.
 pub fn lines_are_sound()
-    ensures { (line : List ℕ) → (t : List Token) → (l : Line) → body.Spells line t l → sound.IsSoundUncalled l }
+    ensures { (line : List ℕ) → (t : List Token) → (l : Line) → body.Spells line t l → sound.IsSoundLine l }
 {}

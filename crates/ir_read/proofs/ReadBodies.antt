@@ -9,7 +9,7 @@ use Rattle.ir_draft.specs.declared.stmt.Stmt.{Stmt}
 use Rattle.ir_draft.specs.declared.line.Line.{Line}
 use Rattle.ir_draft.specs.declared.line.Line.TheVariants as line
 use Rattle.ir_line.specs.Body.{Spells}
-use Rattle.ir_line.specs.Sound.{IsCallOp, IsCallLine, IsSoundUncalled}
+use Rattle.ir_line.specs.Sound.{IsCallOp, IsCallLine, IsSoundLine}
 use Rattle.ir_line.proofs.BodyLines.{body_spelled}
 use Rattle.ir_line.proofs.SoundLines.{sound_line}
 use Rattle.ir_line.proofs.WholeLines.{IsWholeLine, whole_line}
@@ -121,7 +121,7 @@ neither false b e = refl
 
 -- a line inside a function that has a form
 pub record Inside (form : Line) : Type 0 where
-  pub sound : IsSoundUncalled form
+  pub sound : IsSoundLine form
   pub whole : IsCallLine form ⊎ IsWholeLine form
 
 inside_form : (l : List ℕ) (form : Line) → form_in true l ≡ Some form → Inside form
@@ -136,7 +136,7 @@ inside_form l form e = here (fault_of l) e where
 
 stmt_at : (p : Position) (s : Stmt) → Inside (line.Stmt s) → may_stand p.spot s.op ≡ true → is_foreign p s.op ≡ false → IsStmtAt (stage_of p.spot) p.blocks s
 stmt_at p s i m f = record {
-  sound = elim i.sound [ inl c ↦ absurd (no_call p s.op f c) | inr x ↦ x ];
+  sound = i.sound;
   whole = elim i.whole [ inl c ↦ absurd (no_call p s.op f c) | inr x ↦ x ];
   stands = may p.spot s.op m;
   first = λ a. begun_is p ∙ in_front p s.op f a;
@@ -200,7 +200,7 @@ body_from names n k p end q (l ∷ ls) (line.Case value label ∷ fs) e s shut =
     bind_ok (after_case n p) _ end s (λ r was now.
     cond_ok (is_cases p.spot) (Ok p) _ r was (λ b is.
     let i : Inside (line.Case value label) = inside_form l (line.Case value label) (first_form e) in
-    grown p r n (line.Case value label) fs (elim i.sound [ inl c ↦ absurd c | inr x ↦ x ]) (ap (λ (x : Position). stage_of x.spot) (ok_is is)) (ap (λ (x : Position). x.blocks) (ok_is is)) (body_from names (n + 1) k r end q ls fs (more_forms e) now shut)))
+    grown p r n (line.Case value label) fs i.sound (ap (λ (x : Position). stage_of x.spot) (ok_is is)) (ap (λ (x : Position). x.blocks) (ok_is is)) (body_from names (n + 1) k r end q ls fs (more_forms e) now shut)))
 body_from names n k p end q (l ∷ ls) (line.CasesEnd ∷ fs) e s shut =
     bind_ok (after_cases n p) _ end s (λ r was now.
     cond_ok (is_cases p.spot) _ _ r was (λ b is.

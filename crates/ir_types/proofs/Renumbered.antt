@@ -21,6 +21,7 @@ use Rattle.ir_types.specs.Typed.{is_value, IsTyped}
 use Rattle.ir_types.specs.Walks.{targets_at, IsWalk}
 use Rattle.ir_types.specs.Available.{same_id, op_targets, targets_of, block_targets, is_param, defines, insts_of, insts_at, stands_from, stands_on, before_use, IsAvailableOpd, IsAvailableInst, IsAvailableBlock, IsAvailableFunc, IsAvailableItem}
 use Rattle.ir_types.specs.Formed.{given_ty, ty_in_insts, or_else, ty_in_blocks, ty_in_params, value_ty, opd_ty, IsOpd, is_terminator, ends_from, EndsOnce, PhisFirst, is_phi, IsIncoming, IsCalling, block_ids, item_ids, ids_of_items, ids_of, IsFormedInst, IsFormedBlock, IsFormedFunc, IsFormedItem, IsFormed, IsPoisonIfPointer, is_plain, IsPlainInst, IsPlainBlock, IsPlainFunc, IsPlainItem, function_names}
+use Rattle.ir_types.specs.KeptParts.{IsAttributes}
 use Rattle.ir_types.specs.Renumbered.{new_id, new_opd, new_inst, new_block, new_param, new_func, new_item, renumbered}
 use Rattle.ir_types.proofs.Formed.{Every, every_at}
 use Rattle.ir_types.proofs.Among.{among, same_is, same_itself, new_apart, In, OpdIn, InstIn, BlockIn, FuncIn, ItemIn, module_in}
@@ -245,6 +246,11 @@ module _ (ids : List Id) where
 
   plain_func : (f : Func) → IsPlainFunc f → IsPlainFunc (new_func ids f)
   plain_func f h = record {
+    header = record {
+      in_front = h.header.in_front;
+      attributed = All-map (λ (p : Param). IsAttributes p.noalias p.attrs) (new_param ids) f.params h.header.attributed;
+      behind = h.header.behind;
+    };
     named = h.named;
     params = All-map (λ (p : Param). is_plain p.name ≡ true) (new_param ids) f.params h.params;
     blocks = All-map IsPlainBlock (new_block ids) f.blocks (λ k d less. plain_block (get_or f.blocks k d) (h.blocks k d less));

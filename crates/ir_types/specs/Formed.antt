@@ -3,8 +3,8 @@
 -- Headers and instructions are of the forms of the profile, with its types, literals and aligns; each function has a block; each
 -- block has its phis first and exactly one terminator, its last instruction; each target, symbol and callee that is named is
 -- there, and each local operand is a parameter or an instruction of the same function; each id is defined once; and each use is
--- available along each walk to it. Names are plain ones, no two functions have one name, what gives no value has no name, and a literal
--- of a pointer is `poison`. (Language Reference, "Functions", "phi Instruction", "call Instruction", "Well-Formedness".)
+-- available along each walk to it. What a header keeps as bytes is such as may stand there; names are plain ones, no two functions have
+-- one name, what gives no value has no name, and a literal of a pointer is `poison`. (Language Reference, "Functions", "phi Instruction", "call Instruction", "Well-Formedness".)
 use Rattle.std.specs.Prelude.{◌≡◌, ℕ, ◌<◌, ◌≤◌, ◌⊎◌, Bool, true, false, not, ◌&&◌, ◌==◌, nat_lt, if◌then◌else◌, refl, codes, List, [], ◌∷◌, ◌++◌, length, map, slice_get, count_by}
 use Rattle.std.specs.List.{All, AllPairs, Contains}
 use Rattle.std.specs.declared.option.Option.{Option}
@@ -28,6 +28,7 @@ use Rattle.ir_types.specs.declared.module.Module.{Module}
 use Rattle.ir_types.specs.Walks.{targets_at, IsReached}
 use Rattle.ir_types.specs.Available.{same_id, op_targets, graph_of, Each, IsAvailable}
 use Rattle.ir_types.specs.Typed.{is_value, is_scalar, IsLiteral, IsTyped}
+use Rattle.ir_types.specs.KeptParts.{IsKeptHeader}
 
 -- ---- types of operands
 
@@ -140,7 +141,7 @@ abbrev pub IsFormedItem : Module → Item → Type 0
 IsFormedItem m (FuncItem func) = IsFormedFunc m func
 IsFormedItem m _ = Unit {0}
 
--- ---- names, results and literals of pointers
+-- ---- headers, names, results and literals of pointers
 
 -- a written name, if there is one, is a plain one: neither quoted nor a number
 abbrev pub is_plain : Option (List ℕ) → Bool
@@ -163,6 +164,7 @@ pub record IsPlainBlock (b : Block) : Type 0 where
   pub insts : All IsPlainInst b.insts
 
 pub record IsPlainFunc (f : Func) : Type 0 where
+  pub header : IsKeptHeader f.before f.params f.after
   pub named : is_name f.name ≡ true
   pub params : All (λ (p : Param). is_plain p.name ≡ true) f.params
   pub blocks : All IsPlainBlock f.blocks

@@ -2,7 +2,9 @@
 use Rattle.std.specs.Prelude.{◌≡◌, refl, ℕ, zero, suc, Bool, true, false, None, Some, List, [], ◌∷◌, slice_get, codes}
 use Rattle.std.proofs.Common.{subst, inl, lit<, arith}
 use Rattle.std.proofs.lemmas.List.Elements.{All-nil, All-cons}
-use Rattle.ir_lex.specs.Bytes.{begins_name, is_word_byte}
+use Rattle.ir_lex.specs.Bytes.{begins_name, is_word_byte, is_sigil, is_mark, is_blank, is_control}
+use Rattle.ir_lex.specs.Ends.{ends_outside}
+use Rattle.ir_lex.specs.Scan.{string_len, more_len, cut, texts, fault_of}
 use Rattle.ir_types.specs.declared.id.Id.{Id}
 use Rattle.ir_types.specs.declared.ty.Ty.TheVariants.{Void}
 use Rattle.ir_types.specs.declared.opd.Opd.{Opd}
@@ -16,6 +18,7 @@ use Rattle.ir_types.specs.declared.module.Item.{Item}
 use Rattle.ir_types.specs.declared.module.Item.TheVariants.{Func as FuncItem}
 use Rattle.ir_types.specs.declared.module.Module.{Module}
 use Rattle.ir_types.specs.Available.{Each, IsAvailableOpd, IsAvailableInst, IsAvailableBlock, IsAvailableItem}
+use Rattle.ir_types.specs.KeptParts.{IsKeptPart, IsKeptHeader}
 use Rattle.ir_types.specs.Formed.{EndsOnce, IsOpd, IsTarget, IsFormedInst, IsFormedBlock, IsFormedFunc, IsFormedItem, IsFormed, IsPlainFunc, IsPlainBlock, IsPlainInst, IsPlainItem, IsPoisonIfPointer}
 
 -- `define void @f() { ret void }`
@@ -45,7 +48,7 @@ each_none Fine (suc k) y e = absurd cc
 
 -- it is formed
 formed : IsFormed one
-unfolding begins_name is_word_byte
+unfolding begins_name is_word_byte cut texts ends_outside
 formed = record {
   items = All-cons (IsFormedItem one) (FuncItem func) [] whole (All-nil (IsFormedItem one));
   plain = record { items = All-cons IsPlainItem (FuncItem func) [] named (All-nil IsPlainItem); names = λ i j d below within. absurd (omega arith) };
@@ -67,8 +70,19 @@ formed = record {
   unnamed : IsPlainBlock (block (returns ∷ []))
   unnamed = record { named = refl; insts = All-cons IsPlainInst returns [] silent (All-nil IsPlainInst) }
 
+  nothing : IsKeptPart []
+  nothing = record { sound = refl; ends = refl; tight = refl; ascii = refl }
+
+  kept : IsKeptHeader [] [] []
+  kept = record { in_front = record { kept = nothing; passed = refl }; attributed = All-nil _; behind = nothing }
+
   named : IsPlainFunc func
-  named = record { named = refl; params = All-nil _; blocks = All-cons IsPlainBlock _ [] unnamed (All-nil IsPlainBlock) }
+  named = record { header = kept; named = refl; params = All-nil _; blocks = All-cons IsPlainBlock _ [] unnamed (All-nil IsPlainBlock) }
+
+-- a function that keeps an open string behind its parameters is not formed
+unclosed : IsPlainFunc (record { before = []; ret = Void; name = codes "f"; params = []; after = codes "gc \"x"; blocks = [] }) → ⊥
+unfolding string_len more_len begins_name is_word_byte is_sigil is_mark is_blank is_control
+unclosed h = let sound : fault_of (codes "gc \"x") ≡ None = h.header.behind.sound in cc
 
 -- a block without an instruction does not end, and none ends twice
 never : EndsOnce [] → ⊥

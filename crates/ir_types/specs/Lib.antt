@@ -3,6 +3,8 @@ pub mod Lits
 pub mod Walks
 pub mod Available
 pub mod Typed
+pub mod HeaderWords
+pub mod KeptParts
 pub mod Formed
 pub mod Renumbered
 pub mod FormedExamples

@@ -133,7 +133,6 @@ module _ (before name : List ℕ) (ret : Ty) (params : List Param) (after : List
       joined_printable = record {
         items = All-cons IsPrintableItem (FuncItem (FuncOf new)) []
             (record {
-              header = func.header;
               calls = All-cons HasNoCall (BlockOf new) [] uncalled (All-nil HasNoCall);
               once = subst (AllPairs (λ (a b : List ℕ). a ≡ b → ⊥)) (sym (ap written_names named_same)) func.once;
             })

@@ -319,7 +319,7 @@ module _ (before ret_name : List ℕ) (ret : Ty) (params : List Param) (after : 
       items = All-cons (IsFormedItem (ModuleOf new)) (FuncItem (FuncOf new)) [] (record { returns = func_formed.returns; params = func_formed.params; blocks = new_blocks; some = lit< tt }) (All-nil (IsFormedItem (ModuleOf new)));
       plain = record {
         items = All-cons IsPlainItem (FuncItem (FuncOf new)) []
-            (record { named = func_plain.named; params = func_plain.params; blocks = All-cons IsPlainBlock (BlockOf new) [] (record { named = block_plain.named; insts = all_of_every IsPlainInst new new_plain }) (All-nil IsPlainBlock) })
+            (record { header = func_plain.header; named = func_plain.named; params = func_plain.params; blocks = All-cons IsPlainBlock (BlockOf new) [] (record { named = block_plain.named; insts = all_of_every IsPlainInst new new_plain }) (All-nil IsPlainBlock) })
             (All-nil IsPlainItem);
         names = formed.plain.names;
       };

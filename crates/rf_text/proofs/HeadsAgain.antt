@@ -35,11 +35,14 @@ use Rattle.ir_line.specs.Outside.{Defined, read_outside}
 use Rattle.ir_line.proofs.OutsideLines.{outside_read}
 use Rattle.ir_forms.proofs.Steps.{bytes_is}
 use Rattle.ir_read.specs.Forms.{form_by}
-use Rattle.rf_text.specs.KeptParts.{IsKeptPart, IsAttributes, are_passed, are_attributes}
+use Rattle.ir_types.specs.HeaderWords.{are_attributes}
+use Rattle.ir_types.specs.KeptParts.{IsKeptPart, IsAttributes}
+use Rattle.rf_text.proofs.KeptWords.{are_passed, same_passed, all_ascii}
 use Rattle.rf_text.specs.Headed.{is_local_name, is_returned, is_shown, IsHeaded, header_line, shown_param, shown_params, shown_head, first_name, HeaderAgain}
 use Rattle.rf_text.proofs.HeadWords.{pieces_sound, pieces_stop, Parts, pieces_stand, spaced_stands, span_stands}
 use Rattle.rf_text.proofs.HeadsTypes.{is_quiet, TyText, ty_facts, value_facts, value_spelled}
-use Rattle.rf_text.proofs.HeadsRead.{words_append, SpellsRet, NoValue, Valued, ReadsParams, LastParam, MoreParams, param_reads, params_read, ty_no_close, head_reads}
+use Rattle.ir_line.specs.CallSpelling.{SpellsRet, NoValue, Valued}
+use Rattle.rf_text.proofs.HeadsRead.{words_append, ReadsParams, LastParam, MoreParams, param_reads, params_read, ty_no_close, head_reads}
 use Rattle.rf_text.proofs.HeadsPrinted.{more_pieces, params_pieces, tail_pieces, inner_pieces, brace, line_pieces, header_feed, inner_are, Shown, AreShown, are_shown, ShownLocal, local_is, name_texts, local_texts}
 use Rattle.rf_text.proofs.Kept.{has_form}
 
@@ -286,7 +289,7 @@ inner_read ns f line ts h (before, r, e, in_front, (ty, r2, e2, typed, (name, r3
           e ∙ ap (λ (x : List Token). before ++ x) (e2 ∙ ap (λ (x : List Token). ty ++ x) (e3 ∙ ap (λ (x : List Token). x ++ r3) one ∙ ap (λ (x : List Token). n ∷ x) o.whole)) in
           let symbol : symbol_of (word line n) ≡ Some f.name = ap symbol_of said ∙ symbol_said f.name h.parts.named in
           let read : head_of line (before ++ (ty ++ (n ∷ o.open_paren ∷ o.inside))) ≡ Some (record { before = span line before; ret = f.ret; name = f.name; params = shown_params ns 0 f.params; after = span line o.rest }) =
-          head_reads line before ty n o.open_paren o.inside o.rest f.ret f.name (shown_params ns 0 f.params) (ap (are_passed 0) before_words ∙ h.parts.in_front.passed) quiet
+          head_reads line before ty n o.open_paren o.inside o.rest f.ret f.name (shown_params ns 0 f.params) (ap (are_passed 0) before_words ∙ sym (same_passed 0 (texts f.before)) ∙ h.parts.in_front.passed) quiet
           (subst (SpellsRet f.ret) (sym ty_words) (ret_spelled f.ret h.parts.returned)) size symbol o.is_open o.read in
           let kept_before : span line before ≡ f.before = span_stands first ∙ h.parts.in_front.kept.tight in
           let kept_after : span line o.rest ≡ f.after = span_stands last ∙ h.parts.behind.tight in
@@ -319,8 +322,8 @@ parts_ascii line (p ∷ ps) ts (front, back, e, stand, more) h =
     ∙ rw (first, parts_ascii line ps back more h.1) refl
 
 spaced_ascii : (part : List ℕ) → IsKeptPart part → list_all is_ascii (texts (spaced part)) ≡ true
-spaced_ascii [] k = k.ascii
-spaced_ascii (b ∷ bs) k = ap (list_all is_ascii) (texts_space (b ∷ bs)) ∙ k.ascii
+spaced_ascii [] k = sym (all_ascii (texts [])) ∙ k.ascii
+spaced_ascii (b ∷ bs) k = ap (list_all is_ascii) (texts_space (b ∷ bs)) ∙ sym (all_ascii (texts (b ∷ bs))) ∙ k.ascii
 
 local_ascii : (l : Option Local) → is_shown l ≡ true → list_all is_ascii (texts (32 ∷ local_text l)) ≡ true
 local_ascii l h = let s : ShownLocal l = local_is l h in ap (λ (x : List ℕ). list_all is_ascii (texts (32 ∷ x))) s.text ∙ ap (list_all is_ascii) (local_texts s.name s.is_name)

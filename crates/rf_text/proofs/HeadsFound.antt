@@ -30,12 +30,15 @@ use Rattle.ir_draft.specs.declared.line.Line.TheVariants as line
 use Rattle.ir_line.specs.Outside.{Spells, NoWord, KeptLine, Defined}
 use Rattle.ir_line.proofs.OutsideLines.{outside_spelled}
 use Rattle.ir_read.specs.Forms.{form_in, form_by}
-use Rattle.rf_text.specs.KeptParts.{IsKeptPart, IsBefore, are_passed, are_attributes}
+use Rattle.ir_types.specs.HeaderWords.{are_attributes}
+use Rattle.ir_types.specs.KeptParts.{IsKeptPart, IsBefore}
+use Rattle.rf_text.proofs.KeptWords.{are_passed, same_passed, all_ascii}
 use Rattle.rf_text.specs.Headed.{is_local_name, is_returned, IsParam, is_written, IsHead}
 use Rattle.rf_text.proofs.Kept.{Formed, formed}
 use Rattle.rf_text.proofs.HeadWords.{span_stands}
-use Rattle.rf_text.proofs.HeadsRead.{words_append, callee_front, passed_front, ret_is}
-use Rattle.rf_text.proofs.HeadsTyped.{spelled_value, ret_quiet, ret_size, ret_returned, Ends, ret_ends}
+use Rattle.ir_line.proofs.Returns.{ret_is, ret_size, Ends, ret_ends}
+use Rattle.rf_text.proofs.HeadsRead.{words_append, callee_front, passed_front}
+use Rattle.rf_text.proofs.HeadsTyped.{spelled_value, ret_quiet, ret_returned}
 
 -- ---- tokens that stand one behind the other in a line
 
@@ -110,7 +113,7 @@ run_kept {line} (t ∷ ts) r =
     let p : Between line (span line (t ∷ ts)) (t ∷ ts) = subst (λ (n : ℕ). Between line (word line (record { from = t.from; to = n })) (t ∷ ts)) (end_last t.to ts) b in
     let same : words line (t ∷ ts) ≡ texts (span line (t ∷ ts)) = words_stand p.stands in
     record {
-      kept = record { sound = p.sound; ends = p.ends; tight = sym (span_stands p.stands); ascii = ap (list_all is_ascii) (sym same) ∙ run_ascii (t ∷ ts) r };
+      kept = record { sound = p.sound; ends = p.ends; tight = sym (span_stands p.stands); ascii = all_ascii (texts (span line (t ∷ ts))) ∙ ap (list_all is_ascii) (sym same) ∙ run_ascii (t ∷ ts) r };
       same = sym same;
     }
 
@@ -374,7 +377,7 @@ before_found line ts n t r found returned =
     let kept : KeptRun line before = run_kept before (run_take end.front ts r) in
     let free : are_passed 0 (take end.front ws) ≡ true =
     passed_front 0 (take end.front ws) (drop end.front ws) (subst (λ (x : Words). are_passed 0 x ≡ true) (sym (take-append-drop end.front ws)) passed) (ret_quiet end.spelled) in
-    (subst (λ (k : ℕ). IsBefore (span line (take k ts))) (sym front) (record { kept = kept.kept; passed = ap (are_passed 0) (kept.same ∙ before_words) ∙ free }), ret_returned end.spelled)
+    (subst (λ (k : ℕ). IsBefore (span line (take k ts))) (sym front) (record { kept = kept.kept; passed = same_passed 0 (texts (span line before)) ∙ ap (are_passed 0) (kept.same ∙ before_words) ∙ free }), ret_returned end.spelled)
 
 name_is : {line : List ℕ} (ts : List Token) (name : List ℕ × Words) → TokenRun line ts → one symbol_of (words line ts) ≡ Some name → is_name name.0 ≡ true
 name_is [] name r e = nothing e

@@ -18,7 +18,7 @@ use Rattle.ir_print.specs.Names.{Names}
 use Rattle.ir_print.specs.Names as shown
 use Rattle.ir_print.specs.Operands.{spaced, local_text}
 use Rattle.ir_print.specs.Text.{param_text, more_params, params_text, header_text}
-use Rattle.rf_text.specs.KeptParts.{IsKeptPart}
+use Rattle.ir_types.specs.KeptParts.{IsKeptPart}
 use Rattle.rf_text.specs.Headed.{is_local_name, IsParam, is_shown, IsHeaded, header_line, shown_name}
 use Rattle.rf_text.proofs.HeadWords.{Piece, ArePieces, pieces_append}
 use Rattle.rf_text.proofs.HeadsTypes.{ty_facts, value_facts}

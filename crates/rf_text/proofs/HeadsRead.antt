@@ -15,10 +15,13 @@ use Rattle.ir_words.specs.Values.{width_of, named, local_of, symbol_of, is_some}
 use Rattle.ir_words.specs.Words.{Words, is_first}
 use Rattle.ir_words.specs.Reading.{ty_at}
 use Rattle.ir_forms.specs.Pieces.{SpellsTy, Integer, Pointer, Vector}
+use Rattle.ir_line.specs.CallSpelling.{SpellsRet}
+use Rattle.ir_line.proofs.Returns.{ret_reads}
 use Rattle.ir_line.specs.Headers.{span, depth_after, goes_on, attrs_len, is_banned, ty_len, name_of, behind_name, param, attributed, param_at, params_within, params_at, is_callee, name_from, last_tokens, whole, ret_of, head_of}
 use Rattle.ir_forms.proofs.Parts.{ty_takes, NoTy, ty_not}
 use Rattle.ir_forms.proofs.Steps.{nothing, apart}
-use Rattle.rf_text.specs.KeptParts.{are_passed, are_attributes}
+use Rattle.ir_types.specs.HeaderWords.{are_attributes}
+use Rattle.rf_text.proofs.KeptWords.{are_passed}
 use Rattle.rf_text.proofs.HeadsTypes.{is_quiet}
 
 pub words_append : (line : List ℕ) (ts us : List Token) → words line (ts ++ us) ≡ words line ts ++ words line us
@@ -204,55 +207,6 @@ passed_front d [] qs h q = quiet_level d qs h q
 passed_front d (t ∷ ws) qs h q =
     let p : Passed d t (ws ++ qs) = passed_is d t (ws ++ qs) h in
     is_passed d t ws (record { no_callee = callee_front d t ws qs p.no_callee; no_close = p.no_close; more = passed_front (depth_after d t) ws qs p.more q })
-
--- ---- the type that is returned
-
--- the words of a type that is returned
-pub data SpellsRet : Ty → Words → Type 0 where
-  NoValue : SpellsRet Void (codes "void" ∷ [])
-  Valued : (t : Ty) (ts : Words) → SpellsTy t ts [] → SpellsRet t ts
-
-abbrev pub last_words : ℕ → Words → Words
-last_words n ws = drop (length ws - n) ws
-
-pub words_last : (line : List ℕ) (n : ℕ) (ts : List Token) → words line (last_tokens n ts) ≡ last_words n (words line ts)
-words_last line n ts = sym (drop-map (word line) (length ts - n) ts) ∙ ap (λ (k : ℕ). drop (k - n) (words line ts)) (sym (length-map ts (word line)))
-
-last_append : (n : ℕ) (ws us : Words) → length us ≡ n → last_words n (ws ++ us) ≡ us
-last_append n ws us e =
-    let size : length (ws ++ us) - n ≡ length ws = omega (arith, length-append ws us, e) in
-    rw size (drop-append_seam ws us)
-
--- the type by the last word and the last five
-abbrev pub ret_by : Words → Words → Option Ty
-ret_by last five = cond (is_first (codes "void") last) (Some Void) (cond (is_first (codes ">") last) (whole (ty_at five)) (whole (ty_at last)))
-
-no_void : width_of (codes "void") ≡ None
-unfolding width_of
-no_void = refl
-
-no_angle : width_of (codes ">") ≡ None
-unfolding width_of
-no_angle = refl
-
-ret_words : {t : Ty} {us : Words} (ws : Words) → SpellsRet t us → ret_by (last_words 1 (ws ++ us)) (last_words 5 (ws ++ us)) ≡ Some t
-ret_words ws NoValue = rw (last_append 1 ws (codes "void" ∷ []) refl) refl
-ret_words ws (Valued _ _ (Integer w word rest h)) =
-    rw (last_append 1 ws (word ∷ []) refl, apart width_of (codes "void") word w no_void h, apart width_of (codes ">") word w no_angle h, ty_takes (Integer w word [] h)) refl
-ret_words ws (Valued _ _ (Pointer rest)) = rw (last_append 1 ws (codes "ptr" ∷ []) refl, ty_takes (Pointer [])) refl
-ret_words ws (Valued _ _ (Vector n w count word rest hn hw row)) =
-    let front : Words = codes "<" ∷ count ∷ codes "x" ∷ word ∷ [] in
-    let last : last_words 1 (ws ++ (codes "<" ∷ count ∷ codes "x" ∷ word ∷ codes ">" ∷ [])) ≡ codes ">" ∷ [] = ap (last_words 1) (sym (append_assoc ws front (codes ">" ∷ []))) ∙ last_append 1 (ws ++ front) (codes ">" ∷ []) refl in
-    rw (last, last_append 5 ws (codes "<" ∷ count ∷ codes "x" ∷ word ∷ codes ">" ∷ []) refl, ty_takes (Vector n w count word [] hn hw row)) refl
-
-pub ret_is : (line : List ℕ) (ts : List Token) → ret_of line ts ≡ ret_by (last_words 1 (words line ts)) (last_words 5 (words line ts))
-unfolding ret_of
-ret_is line ts = ap (λ (x : Words). ret_by x (words line (last_tokens 5 ts))) (words_last line 1 ts) ∙ ap (ret_by (last_words 1 (words line ts))) (words_last line 5 ts)
-
--- the type that stands at the end is returned
-pub ret_reads : (line : List ℕ) (t : Ty) (before ty : List Token) → SpellsRet t (words line ty) → ret_of line (before ++ ty) ≡ Some t
-ret_reads line t before ty s =
-    ret_is line (before ++ ty) ∙ ap (λ (x : Words). ret_by (last_words 1 x) (last_words 5 x)) (words_append line before ty) ∙ ret_words (words line before) s
 
 -- ---- the whole
 

@@ -15,7 +15,7 @@ use Rattle.ir_forms.proofs.Parts.{ty_taken}
 use Rattle.ir_forms.proofs.Steps.{nothing, some_is, cond_then, first_is, apart}
 use Rattle.rf_text.specs.Headed.{is_returned}
 use Rattle.rf_text.proofs.HeadsTypes.{is_quiet}
-use Rattle.rf_text.proofs.HeadsRead.{SpellsRet, NoValue, Valued, last_words, ret_by}
+use Rattle.ir_line.specs.CallSpelling.{SpellsRet, NoValue, Valued}
 
 -- the widths that are read are those of the profile
 width_said : (word : List ℕ) (w : ℕ) → width_of word ≡ Some w → is_width w ≡ true
@@ -43,12 +43,6 @@ pub spelled_value : {t : Ty} {ts rest : Words} → SpellsTy t ts rest → is_val
 spelled_value (Integer w word rest h) = rw (width_said word w h) refl
 spelled_value (Pointer rest) = refl
 spelled_value (Vector n w count word rest hn hw row) = right_true false _ (row_is_vector n w row (width_said word w hw))
-
--- it has its words
-pub spelled_size : {t : Ty} {ts : Words} → SpellsTy t ts [] → length ts ≡ ty_len t
-spelled_size (Integer w word rest h) = refl
-spelled_size (Pointer rest) = refl
-spelled_size (Vector n w count word rest hn hw row) = refl
 
 -- words that say something that no symbol says
 no_symbol_word : {A : Type 0} (f : List ℕ → Option A) (word : List ℕ) (a : A) → ((bs : List ℕ) → f (64 ∷ bs) ≡ None) → f word ≡ Some a → is_some (symbol_of word) ≡ false
@@ -82,10 +76,6 @@ unfolding symbol_of
 ret_quiet NoValue = refl
 ret_quiet (Valued _ _ s) = spelled_quiet s
 
-pub ret_size : {t : Ty} {ts : Words} → SpellsRet t ts → length ts ≡ ty_len t
-ret_size NoValue = refl
-ret_size (Valued _ _ s) = spelled_size s
-
 value_returned : (t : Ty) → is_value t ≡ true → is_returned t ≡ true
 value_returned Void h = refl
 value_returned (Int w) h = h
@@ -95,35 +85,3 @@ value_returned (Row n w) h = h
 pub ret_returned : {t : Ty} {ts : Words} → SpellsRet t ts → is_returned t ≡ true
 ret_returned NoValue = refl
 ret_returned (Valued t _ s) = value_returned t (spelled_value s)
-
--- the type at the end of words is spelled by the last of them
-pub record Ends (t : Ty) (ws : Words) : Type 0 where
-  pub front : ℕ
-  pub within : front ≤ length ws
-  pub spelled : SpellsRet t (drop front ws)
-
-whole_is : (o : Option (Ty × Words)) (t : Ty) → whole o ≡ Some t → o ≡ Some (t, [])
-whole_is None t e = nothing e
-whole_is (Some (u, [])) t e = ap (λ (x : Ty). Some (x, [])) (some_is e)
-whole_is (Some (u, w ∷ ws)) t e = nothing e
-
-whole_spelled : (t : Ty) (ws : Words) → whole (ty_at ws) ≡ Some t → SpellsTy t ws []
-whole_spelled t ws e = ty_taken ws (t, []) (whole_is (ty_at ws) t e)
-
-one_word : (v : List ℕ) (ws : Words) → length ws ≤ 1 → is_first v ws ≡ true → ws ≡ v ∷ []
-one_word v [] l h = cc
-one_word v (w ∷ []) l h = first_is v (w ∷ []) h
-one_word v (w ∷ u ∷ ws) l h = absurd (omega (arith, l))
-
-pub ret_ends : (t : Ty) (ws : Words) → ret_by (last_words 1 ws) (last_words 5 ws) ≡ Some t → Ends t ws
-ret_ends t ws e =
-    let short : length (last_words 1 ws) ≤ 1 = omega (arith, length-drop (length ws - 1) ws) in
-    cond_then (is_first (codes "void") (last_words 1 ws)) _ _ _ e
-    (λ first r. record {
-      front = length ws - 1;
-      within = omega arith;
-      spelled = subst (λ (x : Ty). SpellsRet x (last_words 1 ws)) (some_is r) (subst (SpellsRet Void) (sym (one_word (codes "void") (last_words 1 ws) short first)) NoValue);
-    })
-    (λ _ e2. cond_then (is_first (codes ">") (last_words 1 ws)) _ _ _ e2
-    (λ _ r. record { front = length ws - 5; within = omega arith; spelled = Valued t _ (whole_spelled t (last_words 5 ws) r) })
-    (λ _ r. record { front = length ws - 1; within = omega arith; spelled = Valued t _ (whole_spelled t (last_words 1 ws) r) }))

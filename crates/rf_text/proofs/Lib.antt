@@ -21,6 +21,7 @@ pub mod InstsSwitch
 pub mod InstsValues
 pub mod InstsVectors
 pub mod Kept
+pub mod KeptWords
 pub mod NamedBuilt
 pub mod NamedFound
 pub mod NamedFunction

@@ -19,7 +19,7 @@ use Rattle.ir_types.specs.Formed as formed
 use Rattle.ir_types.specs.Formed.{given_ty, is_plain, IsPoisonIfPointer, IsFormed, IsFormedItem, IsFormedFunc, IsPlain}
 use Rattle.ir_print.specs.Names.{named_of, is_store, is_void}
 use Rattle.rf_text.specs.Headed.{is_returned, IsParam, IsHeader}
-use Rattle.rf_text.specs.KeptParts.{IsAttributes}
+use Rattle.ir_types.specs.KeptParts.{IsAttributes}
 use Rattle.rf_text.specs.OpaqueText.{IsOpaqueText}
 use Rattle.rf_text.specs.Shown.{is_call}
 use Rattle.rf_text.specs.Printable.{written_names, HasNoCall, IsPrintableFunc, IsPlainLine, IsPrintableItem, IsPrintable}
@@ -187,11 +187,11 @@ returned (Row n w) e = elim e [ inl v ↦ absurd cc | inr h ↦ h ]
 func_of : (m : Module) (f : Func) → IsFormedFunc m f → formed.IsPlainFunc f → IsPrintableFunc f → IsPlainFunc f
 func_of m f z p q = record {
   header = record {
-    in_front = q.header.in_front;
+    in_front = p.header.in_front;
     returned = returned f.ret z.returns;
     named = p.named;
-    typed = two_all (λ (x : Param). is_value x.ty ≡ true) (λ (x : Param). IsAttributes x.noalias x.attrs) IsParam (λ x t a. record { typed = t; attributed = a }) f.params z.params q.header.attributed;
-    behind = q.header.behind;
+    typed = two_all (λ (x : Param). is_value x.ty ≡ true) (λ (x : Param). IsAttributes x.noalias x.attrs) IsParam (λ x t a. record { typed = t; attributed = a }) f.params z.params p.header.attributed;
+    behind = p.header.behind;
   };
   params = p.params;
   blocks = two_all formed.IsPlainBlock HasNoCall IsPlainBlock block_of f.blocks p.blocks q.calls;
@@ -216,11 +216,6 @@ plain_items m z q = items_of m m.items z.items z.plain.items q.items
 
 pub func_printable : (f : Func) → IsPlainFunc f → IsPrintableFunc f
 func_printable f p = record {
-  header = record {
-    in_front = p.header.in_front;
-    attributed = All-weaker IsParam (λ (x : Param). IsAttributes x.noalias x.attrs) (λ x h. h.attributed) f.params p.header.typed;
-    behind = p.header.behind;
-  };
   calls = All-weaker IsPlainBlock HasNoCall (λ b h. All-weaker IsPlainInst (λ (i : Inst). is_call i.op ≡ false) (λ i k. k.other) b.insts h.insts) f.blocks p.blocks;
   once = p.once;
 }
@@ -237,4 +232,13 @@ block_formed : (b : Block) → IsPlainBlock b → formed.IsPlainBlock b
 block_formed b p = record { named = p.named; insts = All-weaker IsPlainInst formed.IsPlainInst inst_formed b.insts p.insts }
 
 pub func_formed : (f : Func) → IsPlainFunc f → formed.IsPlainFunc f
-func_formed f p = record { named = p.header.named; params = p.params; blocks = All-weaker IsPlainBlock formed.IsPlainBlock block_formed f.blocks p.blocks }
+func_formed f p = record {
+  header = record {
+    in_front = p.header.in_front;
+    attributed = All-weaker IsParam (λ (x : Param). IsAttributes x.noalias x.attrs) (λ x h. h.attributed) f.params p.header.typed;
+    behind = p.header.behind;
+  };
+  named = p.header.named;
+  params = p.params;
+  blocks = All-weaker IsPlainBlock formed.IsPlainBlock block_formed f.blocks p.blocks;
+}

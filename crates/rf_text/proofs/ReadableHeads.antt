@@ -20,8 +20,10 @@ use Rattle.ir_line.proofs.OutsideLines.{outside_spelled}
 use Rattle.ir_forms.proofs.Steps.{nothing, some_is, bind_then, cond_then, one_says}
 use Rattle.ir_read.specs.Forms.{form_in, form_by}
 use Rattle.rf_text.proofs.Kept.{Formed, formed}
-use Rattle.rf_text.proofs.HeadsRead.{words_append, ret_is}
-use Rattle.rf_text.proofs.HeadsTyped.{ret_quiet, ret_size, Ends, ret_ends}
+use Rattle.rf_text.proofs.HeadsRead.{words_append}
+use Rattle.ir_line.proofs.Returns.{ret_is}
+use Rattle.ir_line.proofs.Returns.{ret_is, ret_size, Ends, ret_ends}
+use Rattle.rf_text.proofs.HeadsTyped.{ret_quiet}
 use Rattle.rf_text.proofs.HeadsFound.{TokenRun, KeptRun, run_kept, run_take, NameAt, name_found, take_less}
 use Rattle.rf_text.proofs.HeadsAgain.{symbol_append, quiet_symbol}
 

@@ -45,7 +45,7 @@ use Rattle.ir_types_check.proofs.ReadTops.{global_part, draft_globals, draft_top
 use Rattle.ir_types_check.proofs.ReadNames.{onto}
 use Rattle.ir_types_check.proofs.ReadModule.{EachItem, IsFineLine, IsFineItem, IsFineName, IsFuncOf, IsItemOf}
 use Rattle.rf_text.specs.Headed.{is_local_name, is_returned, is_written, IsParam, IsHead}
-use Rattle.rf_text.specs.KeptParts.{IsKeptPart, IsBefore}
+use Rattle.ir_types.specs.KeptParts.{IsKeptPart, IsBefore}
 use Rattle.rf_text.specs.Shown.{is_call}
 use Rattle.ir_types.specs.Formed.{IsPoisonIfPointer}
 use Rattle.rf_text.specs.ModuleForms.{kept_at}
@@ -126,7 +126,7 @@ module _ (names : List (List ℕ)) (other : Bool) where
   line_is : (form : Line) → IsReadForm form → IsAllowedLine names form → IsFineLine IsLocal IsFreeStmt IsFree free_args form
   line_is (line.Label name) r a = elim r.plain [ inl c ↦ absurd c | inr p ↦ p ]
   line_is (line.Stmt s) r a = record {
-    sound = elim r.sound [ inl c ↦ absurd (a.0 c) | inr x ↦ x ];
+    sound = r.sound;
     plain = plain r.plain;
     uncalled = a.0;
     args = all_free s.args (plain r.plain).poison a.1;

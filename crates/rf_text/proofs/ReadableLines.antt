@@ -26,7 +26,7 @@ use Rattle.ir_words.specs.Words.{Words}
 use Rattle.ir_forms.specs.Pieces.{Says}
 use Rattle.ir_forms.specs.Forms.{Form, Label, Choice, ChoicesEnd, Binary, Compare, Convert, Select, Extract, Insert, Shuffle, Step, StepInto, Load, Allocate, Phi, Store, Return, ReturnValue, Jump, Branch, Switch, Unreachable, slots, Spell, line_of, arg}
 use Rattle.ir_line.specs.Body.{Spells, NoWord, Brace, Formed, Called, attachment_at, unattached}
-use Rattle.ir_line.specs.Sound.{IsSoundOp, IsSound, IsCallLine, IsCallOp, IsSoundUncalled, written_types}
+use Rattle.ir_line.specs.Sound.{IsSoundOp, IsSound, IsCallLine, IsCallOp, IsSoundLine, written_types}
 use Rattle.ir_line.proofs.BodyLines.{body_spelled}
 use Rattle.ir_forms.proofs.PoisonPointers.{PoisonArg, operand, other, pairs_poison}
 use Rattle.ir_line.proofs.SoundLines.{call_is, sound_line}
@@ -221,7 +221,7 @@ uncalled_op _ h = refl
 
 -- a line inside a function that is read, unless it is a call
 pub record IsReadForm (form : Line) : Type 0 where
-  pub sound : IsSoundUncalled form
+  pub sound : IsSoundLine form
   pub plain : IsCallLine form ⊎ IsPlainForm form
 
 read_form : (l : List ℕ) (form : Line) → fault_of l ≡ None → Spells l (cut l) form → IsReadForm form

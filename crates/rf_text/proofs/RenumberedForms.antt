@@ -39,7 +39,6 @@ use Rattle.rf_text.specs.Written.{shown_text, shown_block, shown_global, written
 use Rattle.rf_text.specs.ModuleForms.{label_forms, insts_forms, more_blocks_forms, blocks_forms, func_forms, item_forms, gap_forms, more_items_forms, items_forms, module_forms}
 use Rattle.rf_text.specs.OpaqueText.{opaque_forms, opaque_name, opaque_in}
 use Rattle.rf_text.specs.Printable.{HasNoCall, IsPrintableFunc, IsPrintableItem, in_front, written_names, globals_in, global_before, tops_in, IsAllowed, IsAllowedBlock, IsAllowedItem, has_function, IsPrintable, ids_from, IsNumbered, IsCountedItem, IsCounted, IsKeptOpaque}
-use Rattle.rf_text.specs.KeptParts.{IsAttributes}
 use Rattle.rf_text.specs.Shown.{is_call}
 use Rattle.rf_text.specs.ModuleForms.{kept_at}
 use Rattle.rf_text.specs.Reads.{Reads}
@@ -175,11 +174,6 @@ module _ (ids : List Id) where
 
   printable_func : (f : Func) → IsPrintableFunc f → IsPrintableFunc (new_func ids f)
   printable_func f h = record {
-    header = record {
-      in_front = h.header.in_front;
-      attributed = every_map (λ (p : Param). IsAttributes p.noalias p.attrs) (λ (p : Param). IsAttributes p.noalias p.attrs) (new_param ids) (λ p k. k) f.params h.header.attributed;
-      behind = h.header.behind;
-    };
     calls = every_map HasNoCall HasNoCall (new_block ids) calls_none f.blocks h.calls;
     once = subst (AllPairs (λ (a b : List ℕ). a ≡ b → ⊥)) (sym (ap written_names (named_new ids f) ∙ names_same (named_of f))) h.once;
   }

@@ -115,9 +115,9 @@ IsGoodLine _ = Unit {0}
 
 good : (form : Line) → IsReadForm form → IsCallLine form ⊎ IsWholeLine form → IsCallLine form ⊎ IsGivenLine form → IsNoCall form → IsGoodLine form
 good (lines.Label name) r w g u = elim r.plain [ inl c ↦ absurd c | inr p ↦ p ]
-good (lines.Case value label) r w g u = elim r.sound [ inl c ↦ absurd c | inr p ↦ p ]
+good (lines.Case value label) r w g u = r.sound
 good (lines.Stmt s) r w g u =
-    let sound : IsSound s = elim r.sound [ inl c ↦ absurd (u c) | inr x ↦ x ] in
+    let sound : IsSound s = r.sound in
     let plain : IsPlainStmt s = elim r.plain [ inl c ↦ absurd (u c) | inr x ↦ x ] in
     let given : IsGiven s = elim g [ inl c ↦ absurd (u c) | inr x ↦ x ] in
     record {

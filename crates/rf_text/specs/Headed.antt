@@ -20,7 +20,7 @@ use Rattle.ir_print.specs.declared.names.Local.{Local}
 use Rattle.ir_print.specs.Names.{Names, Named, Value, Label, named_of, names_of, local_of}
 use Rattle.ir_print.specs.Operands.{spaced}
 use Rattle.ir_print.specs.Text.{params_text, head_text, header_text}
-use Rattle.rf_text.specs.KeptParts.{IsKeptPart, IsBefore, IsAttributes}
+use Rattle.ir_types.specs.KeptParts.{IsKeptPart, IsBefore, IsAttributes}
 
 -- the name of a local, as it stands behind `%`: a plain name, or a number without leading zeros
 abbrev pub is_local_name : List ℕ → Bool
@@ -35,12 +35,6 @@ is_returned t = is_value t
 pub record IsParam (p : Param) : Type 0 where
   pub typed : is_value p.ty ≡ true
   pub attributed : IsAttributes p.noalias p.attrs
-
--- the parts of a header that are kept as bytes
-pub record IsKeptHeader (before : List ℕ) (params : List Param) (after : List ℕ) : Type 0 where
-  pub in_front : IsBefore before
-  pub attributed : All (λ (p : Param). IsAttributes p.noalias p.attrs) params
-  pub behind : IsKeptPart after
 
 -- the parts of a header of the profile
 pub record IsHeader (before : List ℕ) (ret : Ty) (name : List ℕ) (params : List Param) (after : List ℕ) : Type 0 where

@@ -2,7 +2,6 @@
 pub mod Again
 pub mod Exact
 pub mod Headed
-pub mod KeptParts
 pub mod Limits
 pub mod LinesOf
 pub mod ModuleForms

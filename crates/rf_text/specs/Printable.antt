@@ -1,4 +1,4 @@
--- Modules whose kept parts and items are such as text can have, each name given once. Every module that was read is one, as long as its
+-- Modules whose items are such as text can have, each name given once. Every module that was read is one, as long as its
 -- layout has the low byte first; and the text of one that is formed reads as the same module.
 use Rattle.std.specs.Prelude.{◌≡◌, ℕ, zero, suc, ◌+◌, ◌^◌, ◌<◌, Bool, true, false, Option, None, Some, List, [], ◌∷◌, length}
 use Rattle.std.specs.List.{All, AllPairs}
@@ -19,7 +19,6 @@ use Rattle.ir_print.specs.Names.{Named, Value, Label, named_of}
 use Rattle.ir_read.specs.Forms.{form_in}
 use Rattle.ir_read.specs.Outlook.{has}
 use Rattle.ir_read.specs.Items.{barred_in, has_other_pointers}
-use Rattle.rf_text.specs.Headed.{IsKeptHeader}
 use Rattle.rf_text.specs.OpaqueText.{IsOpaqueText, opaque_forms, opaque_name, opaque_in}
 use Rattle.rf_text.specs.Shown.{is_call}
 use Rattle.rf_text.specs.Written.{shown_global}
@@ -47,7 +46,6 @@ abbrev pub HasNoCall : Block → Type 0
 HasNoCall b = All (λ (i : Inst). is_call i.op ≡ false) b.insts
 
 pub record IsPrintableFunc (f : Func) : Type 0 where
-  pub header : IsKeptHeader f.before f.params f.after
   pub calls : All HasNoCall f.blocks
   -- no name is written twice
   pub once : AllPairs (λ (a b : List ℕ). a ≡ b → ⊥) (written_names (named_of f))

@@ -3,15 +3,14 @@
 --
 -- Such a part means nothing, but what is kept is printed, and what is printed must be read again as the same. So each is described as
 -- a line of its own, whatever stood or will stand around it.
-use Rattle.std.specs.Prelude.{◌≡◌, refl, ℕ, Bool, true, false, not, ◌&&◌, None, List, [], ◌∷◌, codes, bytes_eq, nat_eq}
-use Rattle.std.specs.List.{list_all}
+use Rattle.std.specs.Prelude.{◌≡◌, refl, ℕ, Bool, true, false, None, List, [], codes}
+use Rattle.std.specs.List.{All, list_all}
 use Rattle.ir_lex.specs.Bytes.{begins_name, is_word_byte, is_digit, is_sigil, is_mark, is_blank, is_control}
 use Rattle.ir_lex.specs.Ends.{ends_outside}
 use Rattle.ir_lex.specs.Scan.{string_len, more_len, cut, texts, fault_of}
 use Rattle.ir_lex.specs.Words.{word}
-use Rattle.ir_words.specs.Values.{symbol_of}
-use Rattle.ir_words.specs.Words.{Words, is_ascii}
-use Rattle.ir_line.specs.Headers.{span, depth_after, goes_on, stands, is_banned, is_callee}
+use Rattle.ir_types.specs.declared.func.Param.{Param}
+use Rattle.ir_types.specs.HeaderWords.{span, begins_ascii, are_passed, are_attributes, stands, is_banned}
 
 -- bytes that may be kept: nothing, or bytes that begin and end with a token
 pub record IsKeptPart (part : List ℕ) : Type 0 where
@@ -22,23 +21,12 @@ pub record IsKeptPart (part : List ℕ) : Type 0 where
   -- the bytes from the first to the last token are all of them
   pub tight : span part (cut part) ≡ part
   -- no token begins with a byte of 128 or above
-  pub ascii : list_all is_ascii (texts part) ≡ true
-
--- whether a reader that looks for the function's name, with d parentheses open, passes over these words and is outside parentheses
--- behind them: none is a plain symbol that has `(` behind it, and no `)` stands without its `(`
-abbrev pub are_passed : ℕ → Words → Bool
-are_passed d [] = nat_eq d 0
-are_passed d (t ∷ ts) = not (is_callee d t ts) && (not (nat_eq d 0 && bytes_eq t (codes ")")) && are_passed (depth_after d t) ts)
+  pub ascii : list_all begins_ascii (texts part) ≡ true
 
 -- what may stand between `define` and the type
 pub record IsBefore (part : List ℕ) : Type 0 where
   pub kept : IsKeptPart part
   pub passed : are_passed 0 (texts part) ≡ true
-
--- whether these words, with d parentheses open before them, are attributes, and all parentheses are closed behind them
-abbrev pub are_attributes : ℕ → Words → Bool
-are_attributes d [] = nat_eq d 0
-are_attributes d (t ∷ ts) = goes_on d t && are_attributes (depth_after d t) ts
 
 -- what may stand between a parameter's type and its name, where it has `noalias` or not
 pub record IsAttributes (noalias : Bool) (part : List ℕ) : Type 0 where
@@ -47,21 +35,11 @@ pub record IsAttributes (noalias : Bool) (part : List ℕ) : Type 0 where
   pub allowed : is_banned (texts part) ≡ false
   pub told : noalias ≡ stands (codes "noalias") 0 (texts part)
 
--- a personality in parentheses is passed over, a name with its parameters is not
-personality : are_passed 0 (codes "dso_local" ∷ codes "(" ∷ codes "@f" ∷ codes "(" ∷ codes ")" ∷ codes ")" ∷ []) ≡ true
-unfolding symbol_of
-personality = refl
-
-called : are_passed 0 (codes "@f" ∷ codes "(" ∷ codes ")" ∷ []) ≡ false
-unfolding symbol_of
-called = refl
-
--- a group in parentheses is an attribute, a pointer's star is none
-group : are_attributes 0 (codes "dereferenceable" ∷ codes "(" ∷ codes "8" ∷ codes ")" ∷ []) ≡ true
-group = refl
-
-star : are_attributes 0 (codes "*" ∷ []) ≡ false
-star = refl
+-- the parts of a header that are kept as bytes
+pub record IsKeptHeader (before : List ℕ) (params : List Param) (after : List ℕ) : Type 0 where
+  pub in_front : IsBefore before
+  pub attributed : All (λ (p : Param). IsAttributes p.noalias p.attrs) params
+  pub behind : IsKeptPart after
 
 -- attributes with a string in them are such a part
 section : IsKeptPart (codes "section \"a;b\" align 8")
@@ -72,3 +50,13 @@ section = record { sound = refl; ends = refl; tight = refl; ascii = refl }
 around : span (codes " nonnull ") (cut (codes " nonnull ")) ≡ codes "nonnull"
 unfolding cut word more_len begins_name is_word_byte is_digit is_sigil is_mark is_blank
 around = refl
+
+-- a parameter that says `noalias` among its attributes is one that has it
+noalias_told : IsAttributes true (codes "noalias")
+unfolding ends_outside cut texts word more_len begins_name is_word_byte is_digit is_sigil is_mark is_blank is_control
+noalias_told = record { kept = record { sound = refl; ends = refl; tight = refl; ascii = refl }; attributes = refl; allowed = refl; told = refl }
+
+-- one that does not say so has it not, whatever the module says
+noalias_untold : IsAttributes true (codes "nonnull") → ⊥
+unfolding texts more_len begins_name is_word_byte is_digit is_sigil is_mark is_blank
+noalias_untold h = let told : true ≡ false = h.told in cc
