@@ -38,7 +38,7 @@ use Rattle.vx_view.specs.Addresses.{Symbol, Offset, scales_of, beside_symbol, wi
 use Rattle.rf_order.specs.Steps.{uses}
 use Rattle.rf_order.specs.Ready.{Known, IsIn, IsStatement, formula, has_formula, is_known, IsReady}
 use Rattle.rf_order.proofs.Shapes.{global_there, OpdsShape, opds_shape}
-use Rattle.vx_serial.proofs.Tests.{true_false}
+use Rattle.vx_serial.proofs.Decided.{true_false}
 
 -- ---- sums that wrap
 

@@ -35,7 +35,7 @@ use Rattle.rf_order.specs.Ready.{Known, IsStatement, is_known, IsReady}
 use Rattle.rf_order.proofs.Shapes.{OpdsShape}
 use Rattle.rf_order.proofs.Addresses.{symbol_value, led_to, two_opds, known_opd, uses_here, uses_later, shapes_of, led_pointers}
 use Rattle.rf_order.proofs.Sums.{sum_walk}
-use Rattle.vx_serial.proofs.Tests.{and_left, and_right, true_false}
+use Rattle.vx_serial.proofs.Decided.{and_left, and_right, true_false}
 
 abbrev object_at : Pointer → ℕ
 object_at None = 0

@@ -37,7 +37,7 @@ use Rattle.rf_order.specs.Ready.{Known, next, IsStatement, MayRunAll, is_known, 
 use Rattle.rf_order.specs.Blocks.{ArePhis, NoPhis, IsEntered, IsCut, BlocksRefine}
 use Rattle.rf_order.proofs.Shapes.{step_ready}
 use Rattle.rf_order.proofs.Refined.{NoEnds, insts_append, windows}
-use Rattle.vx_serial.proofs.Tests.{and_left, and_right, neither, not_true, or_case, or_first, or_left, or_right, or_second, true_false}
+use Rattle.vx_serial.proofs.Decided.{and_left, and_right, neither, not_true, or_case, or_first, or_left, or_right, or_second, true_false}
 
 abbrev Ids : List Inst → List Id
 Ids is = map (λ (i : Inst). i.id) is

@@ -19,7 +19,7 @@ use Rattle.ir_model.proofs.Stores.{place_of-is, IsStored, set_twice}
 use Rattle.ir_model.proofs.Lists.{put_comm, length-put}
 use Rattle.rf_order.specs.Swaps.{KeepsObjects, Touch, touch_of, AreApart, IsNamed, AreNamed, Acts, MayPass}
 use Rattle.rf_order.proofs.Lists.{get_other, set_comm, get_front, get_there, get_set_same, get_drop, put_other, Agree, lane_agrees, lanes_agree}
-use Rattle.vx_serial.proofs.Tests.{true_false}
+use Rattle.vx_serial.proofs.Decided.{true_false}
 
 -- ---- operations that only read
 

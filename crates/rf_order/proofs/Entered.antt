@@ -35,7 +35,7 @@ use Rattle.rf_order.specs.Ready.{has_kind, NamesOne, is_known}
 use Rattle.rf_order.specs.Blocks.{ArePhis, IsEntered, IsCut, CameFrom, run_phis, PhisAreEntered}
 use Rattle.rf_order.proofs.Shapes.{never_kinds}
 use Rattle.rf_order.proofs.Blocks.{get_middle, of_items, item, once_all, once, func, available}
-use Rattle.vx_serial.proofs.Tests.{true_false}
+use Rattle.vx_serial.proofs.Decided.{true_false}
 
 phi_no_alloca : (op : Op) → is_phi op ≡ true → is_alloca op ≡ false
 phi_no_alloca (Phi blocks) h = refl

@@ -32,7 +32,7 @@ use Rattle.rf_order.specs.Blocks.{IsEntered, IsCut, ExitsAreEntered}
 use Rattle.rf_order.proofs.Shapes.{never_kinds, step_ready}
 use Rattle.rf_order.proofs.Refined.{insts_append}
 use Rattle.rf_order.proofs.Blocks.{behind_defines, defines_append, get_middle, of_items, item, once_all, once, func, entry, Earlier, back, on_body, all_run, entered_ready, ends_none}
-use Rattle.vx_serial.proofs.Tests.{or_case, or_first, or_second, true_false}
+use Rattle.vx_serial.proofs.Decided.{or_case, or_first, or_second, true_false}
 
 -- ---- after instructions
 

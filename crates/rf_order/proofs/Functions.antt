@@ -41,7 +41,7 @@ use Rattle.rf_order.proofs.Entered.{phis_entered}
 use Rattle.rf_order.proofs.Exits.{exits_entered}
 use Rattle.rf_order.proofs.Leading.{exits_lead}
 use Rattle.rf_order.proofs.Starts.{starts_entered}
-use Rattle.vx_serial.proofs.Tests.{neither, or_left, or_right, true_false}
+use Rattle.vx_serial.proofs.Decided.{neither, or_left, or_right, true_false}
 
 -- ---- types
 

@@ -30,7 +30,7 @@ use Rattle.rf_order.specs.Blocks.{IsCut, CameFrom, ExitsLeadOn}
 use Rattle.rf_order.proofs.Refined.{insts_append}
 use Rattle.rf_order.proofs.Blocks.{entry, all_run, entered_ready, ends_none}
 use Rattle.rf_order.proofs.Exits.{all_next, ready_all, goes_state, last_here, formed_last, last_type, long, stood}
-use Rattle.vx_serial.proofs.Tests.{true_false}
+use Rattle.vx_serial.proofs.Decided.{true_false}
 
 -- ---- targets
 

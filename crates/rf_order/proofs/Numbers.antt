@@ -6,7 +6,7 @@ use Rattle.vx_order.specs.Walks.{Ascends}
 use Rattle.vx_order.proofs.Placing.{head_or_more, ascends_has}
 use Rattle.rf_order.specs.Rows.{NoneBefore, Reordered}
 use Rattle.vx_serial.proofs.Numbers.{same_number, number_itself, Split, split_at, without, has_front, Distinct, differ_of, distinct_out, ascends_distinct, ascends_out, ascends_below}
-use Rattle.vx_serial.proofs.Tests.{neither, not_true, or_case, or_first, or_second, true_false}
+use Rattle.vx_serial.proofs.Decided.{neither, not_true, or_case, or_first, or_second, true_false}
 
 abbrev pub also : (ℕ → Bool) → ℕ → ℕ → Bool
 also done y x = (y == x) || done x

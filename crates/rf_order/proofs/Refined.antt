@@ -39,7 +39,7 @@ use Rattle.rf_order.proofs.Orders.{instead_then, reorder}
 use Rattle.rf_order.proofs.Shapes.{run_shapes, named_of, row, step_ready}
 use Rattle.rf_order.proofs.Apart.{keep_apart}
 use Rattle.rf_order.proofs.Windows.{orders_reordered}
-use Rattle.vx_serial.proofs.Tests.{neither, not_true, or_first, or_left, or_right, or_second, true_false}
+use Rattle.vx_serial.proofs.Decided.{neither, not_true, or_first, or_left, or_right, or_second, true_false}
 
 -- ---- what a dependence is
 

@@ -13,7 +13,7 @@ use Rattle.vx_serial.specs.Window.{joined}
 use Rattle.rf_order.specs.Rows.{Reordered}
 use Rattle.vx_serial.proofs.Grouped.{distinct_group, filter_passes, group_of, has_least, in_joined, long_joined, owner_holds, owner_unique, position_is}
 use Rattle.vx_serial.proofs.Numbers.{same_number, number_itself, has_front, has_back, has_part, Distinct, distinct_both, fits, fills, ascends_distinct}
-use Rattle.vx_serial.proofs.Tests.{not_true, or_first, or_second, true_false}
+use Rattle.vx_serial.proofs.Decided.{not_true, or_first, or_second, true_false}
 use Rattle.rf_order.proofs.Numbers.{also, Topological, topological_more, reordered}
 
 -- ---- places one after another

@@ -40,7 +40,7 @@ use Rattle.rf_order.specs.Steps.{uses}
 use Rattle.rf_order.specs.Ready.{Known, next, IsIn, IsStatement, MayRun, formula, has_formula, IsComputed, has_kind, NamesOne, NameOthers, is_known, RootsApart, IsReady, StepsKeepReady}
 use Rattle.rf_order.proofs.Effects.{read_is}
 use Rattle.rf_order.proofs.Swaps.{values_other}
-use Rattle.vx_serial.proofs.Tests.{or_first, or_second, true_false}
+use Rattle.vx_serial.proofs.Decided.{or_first, or_second, true_false}
 
 -- ---- operands
 

@@ -33,7 +33,7 @@ use Rattle.vx_view.proofs.Edits.{lacks_left}
 use Rattle.rf_order.specs.Ready.{has_kind, NamesOne, NameOthers, is_known, RootsApart}
 use Rattle.rf_order.specs.Blocks.{IsEntered, StartsAreEntered}
 use Rattle.rf_order.proofs.Shapes.{never_kinds}
-use Rattle.vx_serial.proofs.Tests.{and_left, and_right, or_left, or_right, true_false}
+use Rattle.vx_serial.proofs.Decided.{and_left, and_right, or_left, or_right, true_false}
 
 -- ---- parameters
 

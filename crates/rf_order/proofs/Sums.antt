@@ -44,7 +44,7 @@ use Rattle.rf_order.specs.Steps.{uses}
 use Rattle.rf_order.specs.Ready.{Known, IsIn, IsStatement, formula, has_formula, is_known, IsReady}
 use Rattle.rf_order.proofs.Shapes.{OpdsShape}
 use Rattle.rf_order.proofs.Addresses.{scaled, symbol_value, led_to, led_none, two_opds, lane_shape, find_id, KnownSymbol, known_opd, uses_here, uses_later, shapes_of, ran_for}
-use Rattle.vx_serial.proofs.Tests.{and_left, and_right, true_false}
+use Rattle.vx_serial.proofs.Decided.{and_left, and_right, true_false}
 
 -- ---- numbers
 

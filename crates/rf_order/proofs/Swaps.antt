@@ -26,7 +26,7 @@ use Rattle.rf_order.specs.Swaps.{KeepsObjects, CallsKeepObjects, Touch, stored_s
 use Rattle.rf_order.specs.Steps.{uses, acts_in, AreFree, BothPlain, OverCall, CallOver, StepsSwap}
 use Rattle.rf_order.proofs.Lists.{get_front, set_front, get_within}
 use Rattle.rf_order.proofs.Effects.{changes, reads, quiet_is, read_is, reading, reading_first, reading_second, TouchSame, reads_kept, keeps_itself, stored_keeps, alloca_keeps, alloca_same, stored_same, stores_swap}
-use Rattle.vx_serial.proofs.Tests.{or_left, or_right, true_false}
+use Rattle.vx_serial.proofs.Decided.{or_left, or_right, true_false}
 
 -- ---- stores
 

@@ -12,7 +12,7 @@ use Rattle.vx_order.proofs.Placing.{head_or_more}
 use Rattle.vx_serial.specs.Window.{is_member}
 use Rattle.vx_serial.specs.Bundles.{AreOnce}
 use Rattle.vx_serial.proofs.Grouped.{owner_first}
-use Rattle.vx_serial.proofs.Tests.{not_true, or_first, or_second, true_false}
+use Rattle.vx_serial.proofs.Decided.{not_true, or_first, or_second, true_false}
 use Rattle.vx_deps.specs.Orders.{Keeps, place_of, singles, groups_in, edges_from, edges_in, with_id, ids_at}
 use Rattle.vx_deps.specs.Cycles.{LeadsTo, LeadThrough, IsCycle, IsGroup}
 

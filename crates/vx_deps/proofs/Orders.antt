@@ -8,7 +8,7 @@ use Rattle.ir_types.specs.Available.{same_id}
 use Rattle.std.specs.List.{list_any}
 use Rattle.ir_types.proofs.Among.{among, among_left, among_right, Once, same_itself, swapped}
 use Rattle.vx_serial.specs.Bundles.{AreOnce}
-use Rattle.vx_serial.proofs.Tests.{neither}
+use Rattle.vx_serial.proofs.Decided.{neither}
 use Rattle.ir_types.specs.Formed.{IsFormed}
 use Rattle.vx_view.specs.Answers.{find, found, Standing}
 use Rattle.vx_view.specs.Blocks.{block_at}

@@ -8,7 +8,7 @@ use Rattle.ir_types.proofs.Among.{same_is, same_itself, swapped}
 use Rattle.vx_serial.specs.Window.{is_member}
 use Rattle.vx_serial.specs.Bundles as bundle
 use Rattle.vx_serial.specs.Bundles.{AreOnce}
-use Rattle.vx_serial.proofs.Tests.{or_left, or_right, neither, not_true, true_false}
+use Rattle.vx_serial.proofs.Decided.{or_left, or_right, neither, not_true, true_false}
 use Rattle.vx_deps.specs.Graphs.{Kept, ids_of, kept_of, between, keeps, depends_on}
 use Rattle.vx_deps.specs.Orders.{from_member, edges_from, edges_in, window_ids}
 use Rattle.vx_deps.specs.Rows as rows

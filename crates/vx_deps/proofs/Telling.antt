@@ -10,7 +10,7 @@ use Rattle.ir_types.specs.Formed.{IsFormed}
 use Rattle.ir_types.proofs.Among.{same_itself}
 use Rattle.vx_view.specs.Answers.{found}
 use Rattle.vx_serial.specs.Window.{is_member}
-use Rattle.vx_serial.proofs.Tests.{or_first}
+use Rattle.vx_serial.proofs.Decided.{or_first}
 use Rattle.vx_deps.specs.declared.refusal.OrderRefusal.{OrderRefusal}
 use Rattle.vx_deps.specs.declared.refusal.OrderRefusal.TheVariants.{NoOrder, OutOfMemory}
 use Rattle.vx_deps.specs.Graphs.{Kept, ids_of, kept_of, between, keeps, IsRight}

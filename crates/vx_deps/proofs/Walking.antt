@@ -16,7 +16,7 @@ use Rattle.vx_view.specs.Addresses.{Symbol, Offset, Led, Summand, Number, Poison
 use Rattle.vx_view.specs.Conflicts.{Access, access_by, access_of}
 use Rattle.vx_addr.specs.Walks.{on_pointers, on_symbols, is_symbol, on_from, on_rest, first, end, on_walks, on_access}
 use Rattle.vx_serial.specs.Near.{LeadsTo}
-use Rattle.vx_serial.proofs.Tests.{or_case, or_first, or_second}
+use Rattle.vx_serial.proofs.Decided.{or_case, or_first, or_second}
 
 some_is : {A : Type 0} {a b : A} → Some a ≡ Some b → a ≡ b
 some_is e = cc

@@ -11,7 +11,7 @@ use Rattle.vx_order.proofs.Placing.{both, head_or_more, at_head, in_more}
 use Rattle.vx_order.proofs.Holding.{range_has}
 use Rattle.vx_serial.specs.Window.{joined}
 use Rattle.vx_serial.proofs.Numbers.{has_append, has_front, has_back, Distinct, distinct_left, distinct_right, distinct_apart}
-use Rattle.vx_serial.proofs.Tests.{not_true, true_false}
+use Rattle.vx_serial.proofs.Decided.{not_true, true_false}
 
 pub min_is : (p q : ℕ) → (min p q ≡ p) ⊎ (min p q ≡ q)
 min_is p q = grind arith

@@ -1,5 +1,5 @@
 -- Lemmas on what the optimizer writes, and on windows of bundles.
-pub mod Tests
+pub mod Decided
 pub mod Numbers
 pub mod Grouped
 pub mod Places

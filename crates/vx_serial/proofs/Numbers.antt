@@ -4,7 +4,7 @@ use Rattle.std.proofs.lemmas.Bool.Decides.{nat_tests}
 use Rattle.vx_order.specs.Groups.{has}
 use Rattle.vx_order.specs.Walks.{Ascends}
 use Rattle.vx_order.proofs.Placing.{head_or_more, ascends_has}
-use Rattle.vx_serial.proofs.Tests.{neither, not_true, or_case, or_first, or_second, true_false}
+use Rattle.vx_serial.proofs.Decided.{neither, not_true, or_case, or_first, or_second, true_false}
 
 pub same_number : (x y : ℕ) → (x == y) ≡ true → x ≡ y
 same_number x y e = grind (arith, nat_tests)

@@ -14,7 +14,7 @@ use Rattle.vx_serial.specs.Bundles.{AreOnce, ids_of, AreBundles, GroupsPartition
 use Rattle.vx_serial.proofs.Grouped.{owner_holds, owner_unique, in_joined}
 use Rattle.vx_serial.proofs.Numbers.{fits, Distinct, ascends_distinct}
 use Rattle.vx_serial.proofs.Places.{places_from, places_ascend, places_all, places_long, groups_distinct, groups_cover}
-use Rattle.vx_serial.proofs.Tests.{true_false}
+use Rattle.vx_serial.proofs.Decided.{true_false}
 
 size_joined : (groups : List (List ℕ)) → size groups ≡ length (joined groups)
 size_joined [] = refl

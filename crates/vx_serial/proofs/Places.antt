@@ -13,7 +13,7 @@ use Rattle.vx_order.proofs.Placing.{head_or_more, at_head, in_more}
 use Rattle.vx_serial.specs.Window.{is_member, place_of, singles, groups_in, edges_from, edges_in, with_inst, insts_at, joined}
 use Rattle.vx_serial.specs.Bundles.{AreOnce, ids_of, AreBundles}
 use Rattle.vx_serial.proofs.Numbers.{has_front, has_back, has_part, Distinct, distinct_both, ascends_distinct}
-use Rattle.vx_serial.proofs.Tests.{not_true, or_case, or_first, or_second, true_false}
+use Rattle.vx_serial.proofs.Decided.{not_true, or_case, or_first, or_second, true_false}
 
 -- ---- all places
 
