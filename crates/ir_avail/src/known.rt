@@ -4,13 +4,13 @@
 //! use is to be looked at by itself. The map from ids to places is a hint: each place is looked up in the function again.
 
 ghost use Rattle.std.specs.Prelude.{◌≡◌, true, IfOk, slice_index};
-ghost use Rattle.ir_types.specs.Available.{same_id, is_param, insts_at, graph_of, IsAvailableAt};
+ghost use Rattle.ir_types.specs.Available.{is_param, insts_at, graph_of, IsAvailableAt};
 ghost use Rattle.ir_avail.specs.Rows.{IsBand};
 ghost use Rattle.ir_avail.specs.Known.{AreBands};
 ghost use Rattle.ir_avail.specs.Places.{StandsAt};
 
 use crate::graph::Graph;
-use crate::miss::{insts_at, same_id};
+use crate::miss::insts_at;
 use crate::rows::Band;
 use ir_types::{Func, Id, IdTable};
 use std::alloc::{AllocError, Global};
@@ -118,7 +118,7 @@ fn stands_at(func: &Func, value: Id, block: usize, position: usize) -> bool
     ensures { result ≡ true → StandsAt value (insts_at func.now block) position }
 {
     match insts_at(func, block).get(position) {
-        Some(inst) => same_id(inst.id, value),
+        Some(inst) => inst.id.same(value),
         None => false,
     }
 }
@@ -128,7 +128,7 @@ fn is_param_at(func: &Func, value: Id, number: usize) -> bool
     ensures { result ≡ true → is_param value func.now ≡ true }
 {
     match func.params.get(number) {
-        Some(param) => same_id(param.id, value),
+        Some(param) => param.id.same(value),
         None => false,
     }
 }

@@ -4,7 +4,7 @@
 //! the shortest way from the entry to the block in which walks to the use end.
 
 ghost use Rattle.std.specs.Prelude.{◌≡◌, ℕ, IfOk, MatchOption, map, take};
-ghost use Rattle.ir_types.specs.Available.{same_id, is_param, defines, insts_at, graph_of, IsAvailableAt, IsLeastMiss};
+ghost use Rattle.ir_types.specs.Available.{is_param, defines, insts_at, graph_of, IsAvailableAt, IsLeastMiss};
 ghost use Rattle.ir_avail.specs.Avoids.{IsLeast, AreDistances};
 
 use crate::distances::{distance_of, distances};
@@ -41,13 +41,6 @@ pub(crate) fn least_miss(
     }
 }
 
-/// Whether both are the same id.
-pub(crate) fn same_id(left: Id, right: Id) -> bool
-    ensures { result ≡ same_id left right }
-{
-    left.region == right.region && left.k == right.k
-}
-
 /// Whether the value is a parameter.
 fn is_param(func: &Func, value: Id) -> bool
     ensures { result ≡ is_param value func.now }
@@ -55,14 +48,14 @@ fn is_param(func: &Func, value: Id) -> bool
     func.params
         .as_slice()
         .iter()
-        .any(|param| same_id(param.id, value))
+        .any(|param| param.id.same(value))
 }
 
 /// Whether one of the instructions defines the value.
 fn defines(insts: &[Inst], value: Id) -> bool
     ensures { result ≡ defines value insts.now }
 {
-    insts.iter().any(|inst| same_id(inst.id, value))
+    insts.iter().any(|inst| inst.id.same(value))
 }
 
 /// The instructions of a block, none where there is no such block.

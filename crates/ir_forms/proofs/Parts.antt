@@ -9,7 +9,7 @@ use Rattle.ir_draft.specs.declared.written.Written.TheVariants.{Local, Symbol}
 use Rattle.ir_draft.specs.declared.written.Arg.{Arg}
 use Rattle.ir_words.specs.Kinds.{fits, is_pointer}
 use Rattle.ir_words.specs.Values.{width_of, decimal_of, bits_number, lane_of, local_of, symbol_of}
-use Rattle.ir_words.specs.Words.{Words, one, expect, is_first, behind}
+use Rattle.ir_words.specs.Words.{Words, one, expect, is_first, after_first}
 use Rattle.ir_words.specs.Reading.{is_row, row_at, int_at, ty_at, kind_at, typed_lane, lanes_within, listed_at, splat_at, row_lanes, lanes_at, literal_at}
 use Rattle.ir_forms.specs.Operands.{symbol_at, unnamed_at, operand_at, typed_at}
 use Rattle.ir_forms.specs.Pieces as pieces
@@ -46,9 +46,9 @@ pub ty_taken : (ts : Words) (x : Ty × Words) → ty_at ts ≡ Some x → Spells
 unfolding ty_at
 ty_taken ts x e =
     cond_then (is_first (codes "ptr") ts) _ _ _ e
-    (λ first r. subst (TyRead ts) (some_is r) (subst (λ (y : Words). SpellsTy Ptr y (behind ts)) (sym (first_is (codes "ptr") ts first)) (pieces.Pointer (behind ts))))
+    (λ first r. subst (TyRead ts) (some_is r) (subst (λ (y : Words). SpellsTy Ptr y (after_first ts)) (sym (first_is (codes "ptr") ts first)) (pieces.Pointer (after_first ts))))
     (λ _ e2. cond_then (is_first (codes "<") ts) _ _ _ e2
-    (λ first r. subst (λ (y : Words). SpellsTy x.0 y x.1) (sym (first_is (codes "<") ts first)) (row_taken (behind ts) x r))
+    (λ first r. subst (λ (y : Words). SpellsTy x.0 y x.1) (sym (first_is (codes "<") ts first)) (row_taken (after_first ts) x r))
     (λ _ r. int_taken ts x r))
 
 no_ptr : width_of (codes "ptr") ≡ None
@@ -119,9 +119,9 @@ list_taken (_ ∷ bound) w ts x e =
     bind_then (typed_lane w ts) _ x e (λ l el e2.
     let sl : SpellsLane w l.0 ts l.1 = lane_taken w ts l el in
     cond_then (is_first (codes ",") l.1) _ _ _ e2
-    (λ first e3. bind_then (lanes_within bound w (behind l.1)) _ x e3 (λ m em r.
+    (λ first e3. bind_then (lanes_within bound w (after_first l.1)) _ x e3 (λ m em r.
     subst (λ (z : List (Option ℕ) × Words). SpellsList w z.0 ts z.1) (some_is r)
-    (pieces.MoreLanes l.0 m.0 ts (behind l.1) m.1 (subst (λ (y : Words). SpellsLane w l.0 ts y) (first_is (codes ",") l.1 first) sl) (list_taken bound w (behind l.1) m em))))
+    (pieces.MoreLanes l.0 m.0 ts (after_first l.1) m.1 (subst (λ (y : Words). SpellsLane w l.0 ts y) (first_is (codes ",") l.1 first) sl) (list_taken bound w (after_first l.1) m em))))
     (λ _ e3. bind_then (expect (codes ">") l.1) _ x e3 (λ rest er r.
     subst (λ (z : List (Option ℕ) × Words). SpellsList w z.0 ts z.1) (some_is r)
     (pieces.LastLane l.0 ts rest (subst (λ (y : Words). SpellsLane w l.0 ts y) (expect_is (codes ">") l.1 rest er) sl)))))
@@ -161,11 +161,11 @@ row_lanes_taken : (n w : ℕ) (ts : Words) (x : List (Option ℕ) × Words) → 
 unfolding row_lanes
 row_lanes_taken n w ts x e =
     cond_then (is_first (codes "poison") ts) _ _ _ e
-    (λ first r. subst (RowRead n w ts) (some_is r) (subst (λ (y : Words). SpellsRow n w (replicate n None) y (behind ts)) (sym (first_is (codes "poison") ts first)) (pieces.Poison (behind ts))))
+    (λ first r. subst (RowRead n w ts) (some_is r) (subst (λ (y : Words). SpellsRow n w (replicate n None) y (after_first ts)) (sym (first_is (codes "poison") ts first)) (pieces.Poison (after_first ts))))
     (λ _ e2. cond_then (is_first (codes "zeroinitializer") ts) _ _ _ e2
-    (λ first r. subst (RowRead n w ts) (some_is r) (subst (λ (y : Words). SpellsRow n w (replicate n (Some 0)) y (behind ts)) (sym (first_is (codes "zeroinitializer") ts first)) (pieces.Zero (behind ts))))
+    (λ first r. subst (RowRead n w ts) (some_is r) (subst (λ (y : Words). SpellsRow n w (replicate n (Some 0)) y (after_first ts)) (sym (first_is (codes "zeroinitializer") ts first)) (pieces.Zero (after_first ts))))
     (λ _ e3. cond_then (is_first (codes "splat") ts) _ _ _ e3
-    (λ first r. subst (λ (y : Words). SpellsRow n w x.0 y x.1) (sym (first_is (codes "splat") ts first)) (splat_taken n w (behind ts) x r))
+    (λ first r. subst (λ (y : Words). SpellsRow n w x.0 y x.1) (sym (first_is (codes "splat") ts first)) (splat_taken n w (after_first ts) x r))
     (λ _ e4. bind_then (expect (codes "<") ts) _ x e4 (λ rest er r.
     subst (λ (y : Words). SpellsRow n w x.0 y x.1) (sym (expect_is (codes "<") ts rest er)) (listed_taken n w rest x r)))))
 
@@ -294,8 +294,8 @@ unfolding typed_at
 typed_taken k ts x e =
     bind_then (kind_at k ts) _ x e (λ t et e2.
     bind_then (operand_at t.0 t.1) _ x e2 (λ o eo r.
-    subst (λ (z : Arg × Words). SpellsTyped k z.0 ts z.1) (some_is r) (record { behind = t.1; type = kind_taken k ts t et; operand = operand_taken t.0 t.1 o eo })))
+    subst (λ (z : Arg × Words). SpellsTyped k z.0 ts z.1) (some_is r) (record { after = t.1; type = kind_taken k ts t et; operand = operand_taken t.0 t.1 o eo })))
 
 pub typed_takes : (k : Kind) (a : Arg) (ts rest : Words) → SpellsTyped k a ts rest → typed_at k ts ≡ Some (a, rest)
 unfolding typed_at
-typed_takes k a ts rest s = rw (kind_takes k a.ty ts s.behind s.type, operand_takes s.operand) refl
+typed_takes k a ts rest s = rw (kind_takes k a.ty ts s.after s.type, operand_takes s.operand) refl

@@ -5,39 +5,40 @@ use Rattle.ir_types.specs.declared.ty.Ty.{Ty}
 use Rattle.ir_types.specs.declared.ty.Ty.TheVariants.{Void, Int, Ptr, Row}
 use Rattle.ir_types.specs.declared.ty.Elem.{Elem}
 use Rattle.ir_types.specs.declared.ty.Elem.TheVariants.{Array}
+use Rattle.ir_types.specs.Typed.{lane_width}
 use Rattle.ir_words.specs.declared.kinds.Kind.{Kind}
 use Rattle.ir_words.specs.declared.kinds.Kind.TheVariants as kind
 use Rattle.ir_draft.specs.declared.written.Written.{Written}
 use Rattle.ir_forms.specs.declared.pairs.Incoming.{Incoming}
-use Rattle.ir_words.specs.Kinds.{bits_of, lanes_of}
+use Rattle.ir_words.specs.Kinds.{lanes_of}
 use Rattle.ir_words.specs.Values.{width_of, align_of, local_of, label_of}
-use Rattle.ir_words.specs.Words.{Words, one, expect, is_first, behind}
+use Rattle.ir_words.specs.Words.{Words, one, expect, is_first, after_first}
 use Rattle.ir_words.specs.Reading.{is_row, length_of, item_of, kind_at, lanes_at, array_at, elem_at}
-use Rattle.ir_forms.specs.Operands.{are_entries, operand_at, given_at, aligned_at, masked_by, mask_at, target_at, also_target_at, labelled_at, other_at, also_at, put, pair_at, pairs_within, pairs_at}
+use Rattle.ir_forms.specs.Operands.{are_entries, operand_at, given_at, aligned_at, masked_by, mask_at, target_at, next_target_at, labelled_at, next_operand_at, next_typed_at, put, pair_at, pairs_within, pairs_at}
 use Rattle.ir_forms.specs.Pieces as pieces
 use Rattle.ir_forms.specs.Pieces.{Says, Led, SpellsTy, SpellsKind, SpellsLanes, SpellsOperand, SpellsTyped, SpellsAligned, SpellsElem, SpellsMask, SpellsPair, SpellsPairs}
 use Rattle.ir_forms.proofs.Steps.{nothing, clash, some_is, bind_then, when_then, cond_then, expect_is, first_is, one_says, says_one}
 use Rattle.ir_forms.proofs.Parts.{NoTy, ty_not, kind_taken, kind_takes, lanes_taken, lanes_takes, operand_taken, operand_takes, operand_shorter, typed_taken, typed_takes}
 
--- a part behind a word
+-- a part after a word
 led : (v : List ℕ) (P : Words → Type 0) (ts rest : Words) → expect v ts ≡ Some rest → P rest → Led v P ts
 led v P ts rest e p = record { follow = rest; first = expect_is v ts rest e; part = p }
 
-pub other_taken : (t : Ty) (ts : Words) (x : Written × Words) → other_at t ts ≡ Some x → Led (codes ",") (λ us. SpellsOperand t x.0 us x.1) ts
-unfolding other_at
-other_taken t ts x e = bind_then (expect (codes ",") ts) _ x e (λ us eu r. led (codes ",") (λ vs. SpellsOperand t x.0 vs x.1) ts us eu (operand_taken t us x r))
+pub next_operand_taken : (t : Ty) (ts : Words) (x : Written × Words) → next_operand_at t ts ≡ Some x → Led (codes ",") (λ us. SpellsOperand t x.0 us x.1) ts
+unfolding next_operand_at
+next_operand_taken t ts x e = bind_then (expect (codes ",") ts) _ x e (λ us eu r. led (codes ",") (λ vs. SpellsOperand t x.0 vs x.1) ts us eu (operand_taken t us x r))
 
-pub other_takes : (t : Ty) (o : Written) (ts rest : Words) → Led (codes ",") (λ us. SpellsOperand t o us rest) ts → other_at t ts ≡ Some (o, rest)
-unfolding other_at
-other_takes t o ts rest l = rw (l.first, operand_takes l.part) refl
+pub next_operand_takes : (t : Ty) (o : Written) (ts rest : Words) → Led (codes ",") (λ us. SpellsOperand t o us rest) ts → next_operand_at t ts ≡ Some (o, rest)
+unfolding next_operand_at
+next_operand_takes t o ts rest l = rw (l.first, operand_takes l.part) refl
 
-pub also_taken : (k : Kind) (ts : Words) (x : _ × Words) → also_at k ts ≡ Some x → Led (codes ",") (λ us. SpellsTyped k x.0 us x.1) ts
-unfolding also_at
-also_taken k ts x e = bind_then (expect (codes ",") ts) _ x e (λ us eu r. led (codes ",") (λ vs. SpellsTyped k x.0 vs x.1) ts us eu (typed_taken k us x r))
+pub next_typed_taken : (k : Kind) (ts : Words) (x : _ × Words) → next_typed_at k ts ≡ Some x → Led (codes ",") (λ us. SpellsTyped k x.0 us x.1) ts
+unfolding next_typed_at
+next_typed_taken k ts x e = bind_then (expect (codes ",") ts) _ x e (λ us eu r. led (codes ",") (λ vs. SpellsTyped k x.0 vs x.1) ts us eu (typed_taken k us x r))
 
-pub also_takes : (k : Kind) (a : _) (ts rest : Words) → Led (codes ",") (λ us. SpellsTyped k a us rest) ts → also_at k ts ≡ Some (a, rest)
-unfolding also_at
-also_takes k a ts rest l = rw (l.first, typed_takes k a l.follow rest l.part) refl
+pub next_typed_takes : (k : Kind) (a : _) (ts rest : Words) → Led (codes ",") (λ us. SpellsTyped k a us rest) ts → next_typed_at k ts ≡ Some (a, rest)
+unfolding next_typed_at
+next_typed_takes k a ts rest l = rw (l.first, typed_takes k a l.follow rest l.part) refl
 
 -- aligns
 
@@ -45,11 +46,11 @@ pub aligned_taken : (ts : Words) (x : Option ℕ × Words) → aligned_at ts ≡
 unfolding aligned_at given_at
 aligned_taken ts x e =
     cond_then (is_first (codes ",") ts) _ _ _ e
-    (λ first e2. bind_then (expect (codes "align") (behind ts)) _ x e2 (λ a ea e3.
+    (λ first e2. bind_then (expect (codes "align") (after_first ts)) _ x e2 (λ a ea e3.
     bind_then (one align_of a) _ x e3 (λ n en r.
     let s : Says align_of n.0 a n.1 = one_says align_of a n en in
     let whole : ts ≡ codes "," ∷ codes "align" ∷ s.word ∷ n.1 =
-    first_is (codes ",") ts first ∙ ap (λ (y : Words). codes "," ∷ y) (expect_is (codes "align") (behind ts) a ea ∙ ap (λ (y : Words). codes "align" ∷ y) s.first) in
+    first_is (codes ",") ts first ∙ ap (λ (y : Words). codes "," ∷ y) (expect_is (codes "align") (after_first ts) a ea ∙ ap (λ (y : Words). codes "align" ∷ y) s.first) in
     subst (λ (z : Option ℕ × Words). SpellsAligned z.0 ts z.1) (some_is r) (subst (λ (y : Words). SpellsAligned (Some n.0) y n.1) (sym whole) (pieces.Given n.0 s.word n.1 s.says)))))
     (λ other r. subst (λ (z : Option ℕ × Words). SpellsAligned z.0 ts z.1) (some_is r) (pieces.Absent ts other))
 
@@ -78,7 +79,7 @@ pub elem_taken : (k : Kind) (ts : Words) (x : Elem × Words) → elem_at k ts �
 unfolding elem_at
 elem_taken k ts x e =
     cond_then (is_first (codes "[") ts) _ _ _ e
-    (λ first r. subst (λ (y : Words). SpellsElem k x.0 y x.1) (sym (first_is (codes "[") ts first)) (array_taken k (behind ts) x r))
+    (λ first r. subst (λ (y : Words). SpellsElem k x.0 y x.1) (sym (first_is (codes "[") ts first)) (array_taken k (after_first ts) x r))
     (λ _ e2. bind_then (kind_at k ts) _ x e2 (λ t et r.
     subst (λ (z : Elem × Words). SpellsElem k z.0 ts z.1) (some_is r) (pieces.Single t.0 ts t.1 (kind_taken k ts t et))))
 
@@ -117,8 +118,8 @@ masked t (Int w) a b ts rest m ls e s l r = clash (sym s.fitting)
 masked t Ptr a b ts rest m ls e s l r = clash (sym s.fitting)
 masked t (Row n w) a b ts rest m ls e s l r =
     let wide : w ≡ 32 = eqb-true w 32 s.fitting in
-    bind_then (when (is_row n (bits_of t)) (Row n (bits_of t))) _ m r (λ v ev r2.
-    when_then (is_row n (bits_of t)) (Row n (bits_of t)) v ev (λ row same.
+    bind_then (when (is_row n (lane_width t)) (Row n (lane_width t))) _ m r (λ v ev r2.
+    when_then (is_row n (lane_width t)) (Row n (lane_width t)) v ev (λ row same.
     when_then (are_entries (2 * lanes_of t) ls) (v, ls) m r2 (λ fit whole.
     let spelled : SpellsTy (Row n 32) a b = subst (λ (x : ℕ). SpellsTy (Row n x) a b) wide s.spelled in
     let lanes : SpellsLanes (Row n 32) ls b rest = subst (λ (x : ℕ). SpellsLanes (Row n x) ls b rest) wide l in
@@ -152,14 +153,14 @@ pub target_takes : (name : List ℕ) (ts rest : Words) → Led (codes "label") (
 unfolding target_at
 target_takes name ts rest l = rw (l.first, says_one local_of name l.follow rest l.part) refl
 
-pub also_target_taken : (ts : Words) (x : List ℕ × Words) → also_target_at ts ≡ Some x → Led (codes ",") (λ us. Led (codes "label") (λ vs. Says local_of x.0 vs x.1) us) ts
-unfolding also_target_at
-also_target_taken ts x e =
+pub next_target_taken : (ts : Words) (x : List ℕ × Words) → next_target_at ts ≡ Some x → Led (codes ",") (λ us. Led (codes "label") (λ vs. Says local_of x.0 vs x.1) us) ts
+unfolding next_target_at
+next_target_taken ts x e =
     bind_then (expect (codes ",") ts) _ x e (λ us eu r. led (codes ",") (λ vs. Led (codes "label") (λ ws. Says local_of x.0 ws x.1) vs) ts us eu (target_taken us x r))
 
-pub also_target_takes : (name : List ℕ) (ts rest : Words) → Led (codes ",") (λ us. Led (codes "label") (λ vs. Says local_of name vs rest) us) ts → also_target_at ts ≡ Some (name, rest)
-unfolding also_target_at
-also_target_takes name ts rest l = rw (l.first, target_takes name l.follow rest l.part) refl
+pub next_target_takes : (name : List ℕ) (ts rest : Words) → Led (codes ",") (λ us. Led (codes "label") (λ vs. Says local_of name vs rest) us) ts → next_target_at ts ≡ Some (name, rest)
+unfolding next_target_at
+next_target_takes name ts rest l = rw (l.first, target_takes name l.follow rest l.part) refl
 
 pub labelled_taken : (ts : Words) (x : List ℕ × Words) → labelled_at ts ≡ Some x → Says label_of x.0 ts (codes ":" ∷ x.1)
 unfolding labelled_at
@@ -203,9 +204,9 @@ within_taken (_ ∷ bound) t at ts x e =
     bind_then (pair_at t at ts) _ x e (λ p ep e2.
     let sp : SpellsPair t at p.0 ts p.1 = pair_taken t at ts p ep in
     cond_then (is_first (codes ",") p.1) _ _ _ e2
-    (λ first e3. bind_then (pairs_within bound t (at + 1) (behind p.1)) _ x e3 (λ m em r.
+    (λ first e3. bind_then (pairs_within bound t (at + 1) (after_first p.1)) _ x e3 (λ m em r.
     subst (λ (z : Incoming × Words). SpellsPairs t at z.0 ts z.1) (some_is r)
-    (pieces.MorePairs at p.0 m.0 ts (behind p.1) m.1 (subst (λ (y : Words). SpellsPair t at p.0 ts y) (first_is (codes ",") p.1 first) sp) (within_taken bound t (at + 1) (behind p.1) m em))))
+    (pieces.MorePairs at p.0 m.0 ts (after_first p.1) m.1 (subst (λ (y : Words). SpellsPair t at p.0 ts y) (first_is (codes ",") p.1 first) sp) (within_taken bound t (at + 1) (after_first p.1) m em))))
     (λ last r. subst (λ (z : Incoming × Words). SpellsPairs t at z.0 ts z.1) (some_is r) (pieces.LastPair at p.0 ts p.1 sp last)))
 
 within_takes : {t : Ty} {at : ℕ} {i : Incoming} {ts rest : Words} → SpellsPairs t at i ts rest → (bound : Words) → length ts ≤ length bound → pairs_within bound t at ts ≡ Some (i, rest)

@@ -2,7 +2,7 @@
 use Rattle.std.proofs.Common.{◌≡◌, ℕ, Bool, true, false, cond, not, ◌&&◌, List, [], ◌∷◌, Option, Some, None, refl, sym, ◌∙◌, ap, subst, bytes_eq}
 use Rattle.std.proofs.lemmas.Slice.Eq.{bytes_eq-Decides}
 use Rattle.vx_digits.specs.Optional.{◌>>=◌, when}
-use Rattle.ir_words.specs.Words.{Words, one, expect, is_first, behind, by_word}
+use Rattle.ir_words.specs.Words.{Words, one, expect, is_first, after_first, by_word}
 use Rattle.ir_forms.specs.Operands.{choose}
 use Rattle.ir_forms.specs.Pieces.{Says}
 
@@ -54,7 +54,7 @@ expect_is v (t ∷ ts) rest e = when_then (bytes_eq t v) ts rest e (λ same r. a
 pub expects : (v : List ℕ) (rest : Words) → expect v (v ∷ rest) ≡ Some rest
 expects v rest = rw (bytes_same v) refl
 
-pub first_is : (v : List ℕ) (ts : Words) → is_first v ts ≡ true → ts ≡ v ∷ behind ts
+pub first_is : (v : List ℕ) (ts : Words) → is_first v ts ≡ true → ts ≡ v ∷ after_first ts
 first_is v [] e = clash (sym e)
 first_is v (t ∷ ts) e = ap (λ (x : List ℕ). x ∷ ts) (bytes_is t v e)
 

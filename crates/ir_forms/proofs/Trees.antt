@@ -9,6 +9,7 @@ use Rattle.vx_num.specs.declared.operations.Pred.TheVariants as pred
 use Rattle.ir_types.specs.declared.ty.Elem.{Elem}
 use Rattle.ir_types.specs.declared.ty.Elem.TheVariants.{One, Array}
 use Rattle.ir_types.specs.declared.ty.Ty.{Ty}
+use Rattle.ir_types.specs.Typed.{lane_width}
 use Rattle.ir_words.specs.declared.opcode.Opcode.{Opcode}
 use Rattle.ir_words.specs.declared.opcode.Opcode.TheVariants as opcode
 use Rattle.ir_words.specs.declared.opcode.Act.{Act}
@@ -19,10 +20,9 @@ use Rattle.ir_words.specs.declared.kinds.Kind.TheVariants as kind
 use Rattle.ir_draft.specs.declared.line.Line.{Line}
 use Rattle.ir_draft.specs.declared.written.Arg.{Arg}
 use Rattle.ir_lex.specs.Bytes.{begins_name}
-use Rattle.ir_words.specs.Kinds.{bits_of}
 use Rattle.ir_words.specs.Values.{width_of, decimal_of, bits_number, local_of, label_of, opcode_word, opcodes, opcode_of, act_word, acts, act_of, preds, pred_of}
 use Rattle.ir_words.specs.Words.{Words, one, expect, is_first}
-use Rattle.ir_forms.specs.Operands.{labelled_at, also_at, target_at, case_at}
+use Rattle.ir_forms.specs.Operands.{labelled_at, next_typed_at, target_at, case_at}
 use Rattle.ir_forms.specs.Pieces as pieces
 use Rattle.ir_forms.specs.Pieces.{Piece, Value, Takes, Says, Led, SpellsTy, SpellsKind, SpellsTyped, Word, Name, Labelled, Code, ActCode, Comparison, Flags, OfKind, Bare, Other, Typed, Also, Aligned, Element, Mask, Target, AlsoTarget, Case, Pairs}
 use Rattle.ir_forms.specs.Grammar.{Grammar, Done, Then, Or, read, read_piece, ends}
@@ -31,7 +31,7 @@ use Rattle.ir_forms.specs.Forms.{Form, Slot, slot, word, slots, Spell, line_of, 
 use Rattle.ir_forms.proofs.Steps.{nothing, some_is, bind_then, choose_then, expect_is, expects, one_says, says_one, apart, by_word_is}
 use Rattle.ir_forms.proofs.FlagWords.{flags_taken, flags_takes}
 use Rattle.ir_forms.proofs.Parts.{ty_not, kind_taken, kind_takes, operand_taken, operand_takes, typed_taken, typed_takes, no_local}
-use Rattle.ir_forms.proofs.Places.{other_taken, other_takes, also_taken, also_takes, aligned_taken, aligned_takes, elem_taken, elem_takes, mask_taken, mask_takes, target_taken, target_takes, also_target_taken, also_target_takes, labelled_taken, labelled_takes, pairs_taken, pairs_takes, no_colon, no_close, no_void, no_label}
+use Rattle.ir_forms.proofs.Places.{next_operand_taken, next_operand_takes, next_typed_taken, next_typed_takes, aligned_taken, aligned_takes, elem_taken, elem_takes, mask_taken, mask_takes, target_taken, target_takes, next_target_taken, next_target_takes, labelled_taken, labelled_takes, pairs_taken, pairs_takes, no_colon, no_close, no_void, no_label}
 
 opcode_again : (op : Opcode) → opcode_of (opcode_word op) ≡ Some op
 unfolding opcode_of
@@ -100,15 +100,15 @@ taken Comparison ts x e =
 taken (Flags set) ts x e = flags_taken set ts x e
 taken (OfKind k) ts x e = kind_taken k ts x e
 taken (Bare t) ts x e = operand_taken t ts x e
-taken (Other t) ts x e = other_taken t ts x e
+taken (Other t) ts x e = next_operand_taken t ts x e
 taken (Typed k) ts x e = typed_taken k ts x e
-taken (Also k) ts x e = also_taken k ts x e
+taken (Also k) ts x e = next_typed_taken k ts x e
 taken Aligned ts x e = aligned_taken ts x e
 taken (Element k) ts x e = elem_taken k ts x e
 taken (Mask t) ts x e = mask_taken t ts x e
 taken Target ts x e = target_taken ts x e
-taken AlsoTarget ts x e = also_target_taken ts x e
-taken (Case t) ts x e = one_says (bits_number (bits_of t)) ts x e
+taken AlsoTarget ts x e = next_target_taken ts x e
+taken (Case t) ts x e = one_says (bits_number (lane_width t)) ts x e
 taken (Pairs t) ts x e = pairs_taken t ts x e
 
 -- a part that is spelled so is read
@@ -123,15 +123,15 @@ takes Comparison v ts rest e = rw (e, pred_again v) refl
 takes (Flags set) v ts rest s = flags_takes set v ts rest s
 takes (OfKind k) v ts rest s = kind_takes k v ts rest s
 takes (Bare t) v ts rest s = operand_takes s
-takes (Other t) v ts rest s = other_takes t v ts rest s
+takes (Other t) v ts rest s = next_operand_takes t v ts rest s
 takes (Typed k) v ts rest s = typed_takes k v ts rest s
-takes (Also k) v ts rest s = also_takes k v ts rest s
+takes (Also k) v ts rest s = next_typed_takes k v ts rest s
 takes Aligned v ts rest s = aligned_takes s
 takes (Element k) v ts rest s = elem_takes s
 takes (Mask t) v ts rest s = mask_takes s
 takes Target v ts rest s = target_takes v ts rest s
-takes AlsoTarget v ts rest s = also_target_takes v ts rest s
-takes (Case t) v ts rest s = says_one (bits_number (bits_of t)) v ts rest s
+takes AlsoTarget v ts rest s = next_target_takes v ts rest s
+takes (Case t) v ts rest s = says_one (bits_number (lane_width t)) v ts rest s
 takes (Pairs t) v ts rest s = pairs_takes t v ts rest s
 
 -- whatever a tree reads, the form's parts are those that were read
@@ -295,7 +295,7 @@ close_no_name : Skips Name (word (codes "]") ∷ [])
 unfolding local_of
 close_no_name = record { skips = λ ts s. rw s.1 refl }
 
--- behind the keyword of an operation without a result there is no colon
+-- after the keyword of an operation without a result there is no colon
 colon_not : (t : List ℕ) (ts rest : Words) → ts ≡ t ∷ rest → is_first (codes ":") rest ≡ false → labelled_at ts ≡ None
 unfolding labelled_at
 colon_not t ts rest e h = rw (e, h) refl
@@ -319,7 +319,7 @@ bits_colon w = refl
 case_no_label : (k : Kind) (t : Ty) (n : ℕ) (l : List Slot) → Skips Labelled (slot (OfKind k) t ∷ slot (Case t) n ∷ l)
 case_no_label k t n l = record {
   skips = λ ts s.
-      let h : is_first (codes ":") s.0 ≡ false = rw s.2.1.first (apart (bits_number (bits_of t)) (codes ":") s.2.1.word n (bits_colon (bits_of t)) s.2.1.says) in
+      let h : is_first (codes ":") s.0 ≡ false = rw s.2.1.first (apart (bits_number (lane_width t)) (codes ":") s.2.1.word n (bits_colon (lane_width t)) s.2.1.says) in
       ty_no_labelled s.1.spelled h;
 }
 
@@ -344,7 +344,7 @@ unfolding target_at
 typed_no_target k a l = record { skips = λ ts s. rw (first_expect (codes "label") ts (ty_not (codes "label") no_label s.1.type.spelled)) refl }
 
 end_no_also : (k : Kind) → Skips (Also k) []
-unfolding also_at
+unfolding next_typed_at
 end_no_also k = record { skips = λ ts s. rw s refl }
 
 reaches_step : (x : List ℕ) (fs : Words) (e : Elem) (p i : Arg) → Reaches (stepped x fs e p i) (forms.Step x fs e p i) []

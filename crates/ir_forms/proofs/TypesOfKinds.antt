@@ -4,9 +4,9 @@ use Rattle.std.specs.Prelude.{nat_eq, nat_le}
 use Rattle.std.proofs.lemmas.Bool.Decides.{nat_tests}
 use Rattle.ir_types.specs.declared.ty.Ty.{Ty}
 use Rattle.ir_types.specs.declared.ty.Ty.TheVariants.{Void, Int, Ptr, Row}
-use Rattle.ir_types.specs.Typed.{is_width, is_count, is_vector, is_scalar, is_number, is_value, is_stored, lane_width, with_width}
+use Rattle.ir_types.specs.Typed.{is_width, is_count, is_vector, is_scalar, is_number, is_value, is_stored, lane_width, with_width, same_ty}
 use Rattle.ir_words.specs.declared.kinds.Kind.TheVariants as kind
-use Rattle.ir_words.specs.Kinds.{fits, bits_of, lanes_of, is_same, is_cast}
+use Rattle.ir_words.specs.Kinds.{fits, lanes_of, is_cast}
 use Rattle.ir_forms.proofs.Steps.{clash, both_true, not_true}
 
 eq_is : (a b : ℕ) → nat_eq a b ≡ true → a ≡ b
@@ -79,27 +79,9 @@ byte (Row n w) v f = clash (sym f)
 pub item : (w : ℕ) → is_width w ≡ true → nat_eq w 1 ≡ false → is_stored (Int w) ≡ true
 item w v other = rw (v, wide w v other) refl
 
-pub same_is : (t u : Ty) → is_same t u ≡ true → t ≡ u
-same_is Void Void e = refl
-same_is (Int w) (Int v) e = ap Int (eq_is w v e)
-same_is Ptr Ptr e = refl
-same_is (Row n w) (Row m v) e = let b : (nat_eq n m ≡ true) × (nat_eq w v ≡ true) = both_true _ _ e in rw (eq_is n m b.0, eq_is w v b.1) refl
-same_is Void (Int v) e = clash (sym e)
-same_is Void Ptr e = clash (sym e)
-same_is Void (Row m v) e = clash (sym e)
-same_is (Int w) Void e = clash (sym e)
-same_is (Int w) Ptr e = clash (sym e)
-same_is (Int w) (Row m v) e = clash (sym e)
-same_is Ptr Void e = clash (sym e)
-same_is Ptr (Int v) e = clash (sym e)
-same_is Ptr (Row m v) e = clash (sym e)
-same_is (Row n w) Void e = clash (sym e)
-same_is (Row n w) (Int v) e = clash (sym e)
-same_is (Row n w) Ptr e = clash (sym e)
-
-pub lane_of : (u t : Ty) → fits (kind.LaneOf u) t ≡ true → t ≡ Int (bits_of u)
+pub lane_of : (u t : Ty) → fits (kind.LaneOf u) t ≡ true → t ≡ Int (lane_width u)
 lane_of u Void f = clash (sym f)
-lane_of u (Int w) f = ap Int (eq_is w (bits_of u) f)
+lane_of u (Int w) f = ap Int (eq_is w (lane_width u) f)
 lane_of u Ptr f = clash (sym f)
 lane_of u (Row n w) f = clash (sym f)
 
@@ -121,9 +103,9 @@ chosen (Row n w) t v u f g = inr (lanes t u g) where
 
 -- the types of a cast have as many lanes
 pub cast : (u t : Ty) → is_value u ≡ true → is_value t ≡ true → is_cast u t ≡ true →
-    (is_number u ≡ true) × (is_number t ≡ true) × (t ≡ with_width (lane_width t) u) × (bits_of u ≡ lane_width u) × (bits_of t ≡ lane_width t)
-cast (Int w) (Int v) p q e = (p, q, refl, refl, refl)
-cast (Row n w) (Row m v) p q e = (p, q, rw (eq_is n m e) refl, refl, refl)
+    (is_number u ≡ true) × (is_number t ≡ true) × (t ≡ with_width (lane_width t) u)
+cast (Int w) (Int v) p q e = (p, q, refl)
+cast (Row n w) (Row m v) p q e = (p, q, rw (eq_is n m e) refl)
 cast Void t p q e = clash (sym e)
 cast Ptr t p q e = clash (sym e)
 cast (Int w) Void p q e = clash (sym e)

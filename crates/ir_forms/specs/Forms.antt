@@ -14,6 +14,7 @@ use Rattle.ir_types.specs.declared.ty.Elem.{Elem}
 use Rattle.ir_types.specs.declared.ty.Elem.TheVariants.{One, Array}
 use Rattle.ir_types.specs.declared.op.Op.{Op}
 use Rattle.ir_types.specs.declared.op.Op.TheVariants as ops
+use Rattle.ir_types.specs.Typed.{lane_width}
 use Rattle.ir_words.specs.declared.kinds.Kind.{Kind}
 use Rattle.ir_words.specs.declared.kinds.Kind.TheVariants as kind
 use Rattle.ir_words.specs.declared.flags.FlagSet.{FlagSet}
@@ -27,10 +28,9 @@ use Rattle.ir_draft.specs.declared.written.Arg.{Arg}
 use Rattle.ir_draft.specs.declared.line.Line.{Line}
 use Rattle.ir_draft.specs.declared.line.Line.TheVariants as lines
 use Rattle.ir_forms.specs.declared.pairs.Incoming.{Incoming}
-use Rattle.ir_words.specs.Kinds.{bits_of}
 use Rattle.ir_words.specs.Words.{Words}
 use Rattle.ir_words.specs.Reading.{has}
-use Rattle.ir_forms.specs.Operands.{also_at, choose}
+use Rattle.ir_forms.specs.Operands.{next_typed_at, choose}
 use Rattle.ir_forms.specs.Pieces.{Piece, Value, Takes, Word, Name, Labelled, Code, ActCode, Comparison, Flags, OfKind, Bare, Other, Typed, Also, Aligned, Element, Mask, Target, AlsoTarget, Case, Pairs}
 use Rattle.ir_forms.specs.Grammar.{Grammar, Done, Or, ends, ◌>>=◌, ◌>>◌}
 
@@ -89,8 +89,8 @@ arg t o = record { ty = t; opd = o }
 abbrev pub gives : List ℕ → Ty → Op → List Arg → Line
 gives name t op args = lines.Stmt (record { result = Some name; ty = t; op = op; args = args; labels = [] })
 
-abbrev pub does : Ty → Op → List Arg → List (List ℕ) → Line
-does t op args labels = lines.Stmt (record { result = None; ty = t; op = op; args = args; labels = labels })
+abbrev pub without_result : Ty → Op → List Arg → List (List ℕ) → Line
+without_result t op args labels = lines.Stmt (record { result = None; ty = t; op = op; args = args; labels = labels })
 
 abbrev pub flags_of : Words → FlagsOf
 flags_of fs = record {
@@ -113,7 +113,7 @@ line_of (Binary x op fs t a b) = gives x t (ops.Bin op (flags_of fs)) (arg t a �
 line_of (Compare x fs p t a b) = gives x (truth_of t) (ops.Icmp p) (arg t a ∷ arg t b ∷ [])
 line_of (Convert x op fs a u) = gives x u (ops.Cast op (has (codes "nneg") fs)) (a ∷ [])
 line_of (Select x c a b) = gives x a.ty ops.Select (c ∷ a ∷ b ∷ [])
-line_of (Extract x a i) = gives x (Int (bits_of a.ty)) ops.Extract (a ∷ i ∷ [])
+line_of (Extract x a i) = gives x (Int (lane_width a.ty)) ops.Extract (a ∷ i ∷ [])
 line_of (Insert x a b i) = gives x a.ty ops.Insert (a ∷ b ∷ i ∷ [])
 line_of (Shuffle x a b m) = gives x m.0 (ops.Shuffle m.1) (a ∷ b ∷ [])
 line_of (Step x fs e p i) = gives x Ptr (ops.Gep e (has (codes "inbounds") fs)) (p ∷ i ∷ [])
@@ -121,13 +121,13 @@ line_of (StepInto x fs n w p i j) = gives x Ptr (ops.Gep (Array n w) (has (codes
 line_of (Load x t p n) = gives x t (ops.Load (unwrap_or n 1)) (p ∷ [])
 line_of (Allocate x e n) = gives x Ptr (ops.Alloca e n) []
 line_of (Phi x t i) = lines.Stmt (record { result = Some x; ty = t; op = ops.Phi i.blocks; args = i.args; labels = i.labels })
-line_of (Store a p n) = does a.ty (ops.Store (unwrap_or n 1)) (a ∷ p ∷ []) []
-line_of Return = does Void ops.Ret [] []
-line_of (ReturnValue a) = does Void ops.Ret (a ∷ []) []
-line_of (Jump b) = does Void (ops.Br 0) [] (b ∷ [])
-line_of (Branch c a b) = does Void (ops.CondBr 0 1) (c ∷ []) (a ∷ b ∷ [])
-line_of (Switch a d) = does Void (ops.Switch 0 [] []) (a ∷ []) (d ∷ [])
-line_of Unreachable = does Void ops.Unreachable [] []
+line_of (Store a p n) = without_result a.ty (ops.Store (unwrap_or n 1)) (a ∷ p ∷ []) []
+line_of Return = without_result Void ops.Ret [] []
+line_of (ReturnValue a) = without_result Void ops.Ret (a ∷ []) []
+line_of (Jump b) = without_result Void (ops.Br 0) [] (b ∷ [])
+line_of (Branch c a b) = without_result Void (ops.CondBr 0 1) (c ∷ []) (a ∷ b ∷ [])
+line_of (Switch a d) = without_result Void (ops.Switch 0 [] []) (a ∷ []) (d ∷ [])
+line_of Unreachable = without_result Void ops.Unreachable [] []
 
 -- the parts of a form in order
 
@@ -196,7 +196,7 @@ slots (Branch c a b) = slot ActCode act.Br ∷ slot (Typed kind.Bit) c ∷ slot 
 slots (Switch a d) = slot ActCode act.Switch ∷ slot (Typed kind.Integer) a ∷ slot AlsoTarget d ∷ word (codes "[") ∷ []
 slots Unreachable = slot ActCode act.Unreachable ∷ []
 
--- these parts, one behind the other, are the words
+-- these parts, one after the other, are the words
 abbrev pub Spell : List Slot → Words → Type 0
 Spell [] ts = ts ≡ []
 Spell (s ∷ ss) ts = (rest : Words) × Takes s.piece s.value ts rest × Spell ss rest
@@ -259,10 +259,9 @@ unfoldable pub stepped : List ℕ → Words → Elem → Arg → Arg → Grammar
 stepped x fs (One t) p i = Done (Step x fs (One t) p i)
 stepped x fs (Array n w) p i = Or (Also kind.Integer) (λ j. Done (StepInto x fs n w p i j)) (Done (Step x fs (Array n w) p i))
 
--- what the code calls behind an array
-abbrev pub into_array : List ℕ → Bool → ℕ → ℕ → Arg → Arg → Words → Option Line
-into_array x inbounds n w p i ts =
-    choose (also_at kind.Integer ts) (λ j. ends (gives x Ptr (ops.Gep (Array n w) inbounds) (p ∷ i ∷ j.0 ∷ [])) j.1) (ends (gives x Ptr (ops.Gep (Array n w) inbounds) (p ∷ i ∷ [])) ts)
+-- what the code calls after an array
+abbrev pub into_array : List ℕ → Op → Arg → Arg → Words → Option Line
+into_array x op p i ts = choose (next_typed_at kind.Integer ts) (λ j. ends (gives x Ptr op (p ∷ i ∷ j.0 ∷ [])) j.1) (ends (gives x Ptr op (p ∷ i ∷ [])) ts)
 
 unfoldable pub step : List ℕ → Grammar Form
 step x = do
@@ -365,6 +364,6 @@ act_line = Or ActCode by_act choices
 unfoldable pub plain_line : Grammar Form
 plain_line = Or Labelled (λ name. Done (Label name)) act_line
 
--- any form: behind `%x` those with a result
+-- any form: after `%x` those with a result
 unfoldable pub form : Grammar Form
 form = Or Name value_line plain_line

@@ -4,7 +4,7 @@ use Rattle.vx_digits.specs.Optional.{◌>>=◌ as ◌>>>=◌}
 use Rattle.ir_words.specs.Values.{local_of, opcode_of, act_of, pred_of}
 use Rattle.ir_words.specs.Words.{Words, one, expect}
 use Rattle.ir_words.specs.Reading.{flags_at, kind_at, elem_at}
-use Rattle.ir_forms.specs.Operands.{operand_at, other_at, typed_at, also_at, aligned_at, mask_at, target_at, also_target_at, labelled_at, case_at, pairs_at, choose}
+use Rattle.ir_forms.specs.Operands.{operand_at, next_operand_at, typed_at, next_typed_at, aligned_at, mask_at, target_at, next_target_at, labelled_at, case_at, pairs_at, choose}
 use Rattle.ir_forms.specs.Pieces.{Piece, Value, Word, Name, Labelled, Code, ActCode, Comparison, Flags, OfKind, Bare, Other, Typed, Also, Aligned, Element, Mask, Target, AlsoTarget, Case, Pairs}
 
 -- a part, read from the front of the words
@@ -18,14 +18,14 @@ read_piece Comparison ts = one pred_of ts
 read_piece (Flags set) ts = flags_at set ts
 read_piece (OfKind k) ts = kind_at k ts
 read_piece (Bare t) ts = operand_at t ts
-read_piece (Other t) ts = other_at t ts
+read_piece (Other t) ts = next_operand_at t ts
 read_piece (Typed k) ts = typed_at k ts
-read_piece (Also k) ts = also_at k ts
+read_piece (Also k) ts = next_typed_at k ts
 read_piece Aligned ts = aligned_at ts
 read_piece (Element k) ts = elem_at k ts
 read_piece (Mask t) ts = mask_at t ts
 read_piece Target ts = target_at ts
-read_piece AlsoTarget ts = also_target_at ts
+read_piece AlsoTarget ts = next_target_at ts
 read_piece (Case t) ts = case_at t ts
 read_piece (Pairs t) ts = pairs_at t ts
 

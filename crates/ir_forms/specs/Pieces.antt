@@ -9,6 +9,7 @@ use Rattle.ir_types.specs.declared.ty.Ty.{Ty}
 use Rattle.ir_types.specs.declared.ty.Ty.TheVariants.{Int, Ptr, Row}
 use Rattle.ir_types.specs.declared.ty.Elem.{Elem}
 use Rattle.ir_types.specs.declared.ty.Elem.TheVariants.{One, Array}
+use Rattle.ir_types.specs.Typed.{lane_width}
 use Rattle.ir_words.specs.declared.kinds.Kind.{Kind}
 use Rattle.ir_words.specs.declared.flags.FlagSet.{FlagSet}
 use Rattle.ir_words.specs.declared.opcode.Opcode.{Opcode}
@@ -17,7 +18,7 @@ use Rattle.ir_draft.specs.declared.written.Written.{Written}
 use Rattle.ir_draft.specs.declared.written.Written.TheVariants.{Local, Symbol, Lit}
 use Rattle.ir_draft.specs.declared.written.Arg.{Arg}
 use Rattle.ir_forms.specs.declared.pairs.Incoming.{Incoming}
-use Rattle.ir_words.specs.Kinds.{fits, is_pointer, bits_of, lanes_of}
+use Rattle.ir_words.specs.Kinds.{fits, is_pointer, lanes_of}
 use Rattle.ir_words.specs.Values.{width_of, align_of, bits_number, lane_of, local_of, symbol_of, label_of, opcode_word, act_word}
 use Rattle.ir_words.specs.Words.{Words, is_first}
 use Rattle.ir_words.specs.Reading.{allows, is_distinct, is_row, length_of, item_of}
@@ -29,7 +30,7 @@ pub record Says {A : Type 0} (f : List ℕ → Option A) (v : A) (ts rest : Word
   pub first : ts ≡ word ∷ rest
   pub says : f word ≡ Some v
 
--- the word `v` and, behind it, a part that `P` spells
+-- the word `v` and, after it, a part that `P` spells
 pub record Led (v : List ℕ) (P : Words → Type 0) (ts : Words) : Type 0 where
   pub follow : Words
   pub first : ts ≡ v ∷ follow
@@ -54,11 +55,11 @@ pub record SpellsKind (k : Kind) (t : Ty) (ts rest : Words) : Type 0 where
   pub spelled : SpellsTy t ts rest
   pub fitting : fits k t ≡ true
 
--- a lane behind its type, as `i8 -1`
+-- a lane after its type, as `i8 -1`
 pub data SpellsLane (w : ℕ) (l : Option ℕ) : Words → Words → Type 0 where
   Lane : (word lane : List ℕ) (rest : Words) → width_of word ≡ Some w → lane_of w lane ≡ Some l → SpellsLane w l (word ∷ lane ∷ rest) rest
 
--- lanes joined by commas, with the `>` behind them
+-- lanes joined by commas, with the `>` after them
 pub data SpellsList (w : ℕ) : List (Option ℕ) → Words → Words → Type 0 where
   LastLane : (l : Option ℕ) (ts rest : Words) → SpellsLane w l ts (codes ">" ∷ rest) → SpellsList w (l ∷ []) ts rest
   MoreLanes : (l : Option ℕ) (ls : List (Option ℕ)) (ts us rest : Words) → SpellsLane w l ts (codes "," ∷ us) → SpellsList w ls us rest → SpellsList w (l ∷ ls) ts rest
@@ -82,13 +83,13 @@ pub data SpellsOperand (t : Ty) : Written → Words → Words → Type 0 where
   Global : (name word : List ℕ) (rest : Words) → is_pointer t ≡ true → symbol_of word ≡ Some name → SpellsOperand t (Symbol name) (word ∷ rest) rest
   Literal : (ls : List (Option ℕ)) (ts rest : Words) → SpellsLanes t ls ts rest → SpellsOperand t (Lit (record { ty = t; lanes = ls })) ts rest
 
--- an operand behind its type, which is of a kind
+-- an operand after its type, which is of a kind
 pub record SpellsTyped (k : Kind) (a : Arg) (ts rest : Words) : Type 0 where
-  pub behind : Words
-  pub type : SpellsKind k a.ty ts behind
-  pub operand : SpellsOperand a.ty a.opd behind rest
+  pub after : Words
+  pub type : SpellsKind k a.ty ts after
+  pub operand : SpellsOperand a.ty a.opd after rest
 
--- an align behind a comma, or none
+-- an align after a comma, or none
 pub data SpellsAligned : Option ℕ → Words → Words → Type 0 where
   Absent : (rest : Words) → is_first (codes ",") rest ≡ false → SpellsAligned None rest rest
   Given : (n : ℕ) (word : List ℕ) (rest : Words) → align_of word ≡ Some n → SpellsAligned (Some n) (codes "," ∷ codes "align" ∷ word ∷ rest) rest
@@ -102,8 +103,8 @@ pub data SpellsElem (k : Kind) : Elem → Words → Words → Type 0 where
 -- the mask of a shuffle of two vectors of the type t, a literal, with the type of the result
 pub data SpellsMask (t : Ty) : Ty × List (Option ℕ) → Words → Words → Type 0 where
   Entries : (m : ℕ) (ls : List (Option ℕ)) (ts us rest : Words) → SpellsTy (Row m 32) ts us → SpellsLanes (Row m 32) ls us rest →
-      is_row m (bits_of t) ≡ true → are_entries (2 * lanes_of t) ls ≡ true →
-      SpellsMask t (Row m (bits_of t), ls) (codes "," ∷ ts) rest
+      is_row m (lane_width t) ≡ true → are_entries (2 * lanes_of t) ls ≡ true →
+      SpellsMask t (Row m (lane_width t), ls) (codes "," ∷ ts) rest
 
 -- one pair of a `phi`
 pub data SpellsPair (t : Ty) (at : ℕ) : Incoming → Words → Words → Type 0 where
@@ -134,7 +135,7 @@ pub data Piece : Type 0 where
   -- an operand of a type, without and with a comma in front
   Bare : Ty → Piece
   Other : Ty → Piece
-  -- an operand behind its type, without and with a comma in front
+  -- an operand after its type, without and with a comma in front
   Typed : Kind → Piece
   Also : Kind → Piece
   -- an align, if one is there
@@ -192,5 +193,5 @@ Takes (Element k) e ts rest = SpellsElem k e ts rest
 Takes (Mask t) m ts rest = SpellsMask t m ts rest
 Takes Target name ts rest = Led (codes "label") (λ us. Says local_of name us rest) ts
 Takes AlsoTarget name ts rest = Led (codes ",") (λ us. Led (codes "label") (λ vs. Says local_of name vs rest) us) ts
-Takes (Case t) n ts rest = Says (bits_number (bits_of t)) n ts rest
+Takes (Case t) n ts rest = Says (bits_number (lane_width t)) n ts rest
 Takes (Pairs t) i ts rest = SpellsPairs t 0 i ts rest

@@ -5,32 +5,33 @@
 ghost use Rattle.std.specs.Prelude.{◌≡◌, ◌∷◌, [], IfOk};
 ghost use Rattle.ir_types.specs.declared.ty.Ty.TheVariants.{Void};
 ghost use Rattle.ir_types.specs.declared.op.Op.TheVariants as ops;
-ghost use Rattle.ir_lex.specs.Words.{words};
+ghost use Rattle.ir_words.specs.Cursors.{left};
 ghost use Rattle.ir_words.specs.Words.{Gives, one};
 ghost use Rattle.ir_words.specs.Values as values;
 ghost use Rattle.ir_forms.specs.Grammar.{read};
 ghost use Rattle.ir_forms.specs.Forms as forms;
 
-use crate::operands::{aligned, also, also_target, case_number, labelled, local, target, typed};
+use crate::operands::{
+    aligned, case_number, labelled, local, next_target, next_typed, target, typed,
+};
 use crate::value_lines::{finish, value_line};
 use ir_draft::{Arg, Args, Line, Stmt, Stop};
-use ir_lex::Token;
 use ir_types::{Bytes, Literal, Lits, Names, Numbers, Op, Ty};
+use ir_words::cursor::Cursor;
 use ir_words::kinds::Kind;
 use ir_words::opcode::{Act, act_of};
 use ir_words::types::kind;
-use ir_words::words::{expect, next};
 use std::alloc::{AllocError, Global};
 
 /// A store.
 #[tactic(auto, using(crate::proofs::LineEnds::goes_on), unfolding(crate::specs::Forms::store))]
-fn store(alloc: Global, line: &[u8], tokens: &[Token]) -> Result<Line, Stop>
-    ensures { Gives (λ x. x) result (read forms.line_of forms.store (words line.now tokens.now)) }
+fn store(alloc: Global, at: Cursor) -> Result<Line, Stop>
+    ensures { Gives (λ x. x) result (read forms.line_of forms.store (left at.entry)) }
 {
-    let (value, rest) = typed(alloc, Kind::Stored, line, tokens)?;
-    let (pointer, rest) = also(alloc, Kind::Pointer, line, rest)?;
-    let (align, rest) = aligned(line, rest)?;
-    let [] = rest else {
+    let (value, rest) = typed(alloc, Kind::Stored, at)?;
+    let (pointer, rest) = next_typed(alloc, Kind::Pointer, rest)?;
+    let (align, rest) = aligned(rest)?;
+    let [] = rest.tokens else {
         return Err(Stop::NotALine);
     };
     Ok(stored(alloc, value, pointer, align.unwrap_or(1)))
@@ -38,7 +39,7 @@ fn store(alloc: Global, line: &[u8], tokens: &[Token]) -> Result<Line, Stop>
 
 /// The form of a store.
 fn stored(alloc: Global, value: Arg, pointer: Arg, align: u64) -> Line
-    ensures { result ≡ forms.does value.ty (ops.Store align) (value ∷ pointer ∷ []) [] }
+    ensures { result ≡ forms.without_result value.ty (ops.Store align) (value ∷ pointer ∷ []) [] }
 {
     Line::Stmt(Stmt {
         result: None,
@@ -59,8 +60,8 @@ fn one_label(alloc: Global, label: Bytes) -> Result<Names, AllocError>
 }
 
 /// An instruction without a result.
-fn does(op: Op, args: Args, labels: Names) -> Line
-    ensures { result ≡ forms.does Void op args labels }
+fn without_result(op: Op, args: Args, labels: Names) -> Line
+    ensures { result ≡ forms.without_result Void op args labels }
 {
     Line::Stmt(Stmt {
         result: None,
@@ -73,66 +74,73 @@ fn does(op: Op, args: Args, labels: Names) -> Line
 
 /// A return of a value.
 #[tactic(auto, unfolding(crate::specs::Forms::return_value))]
-fn return_value(alloc: Global, line: &[u8], tokens: &[Token]) -> Result<Line, Stop>
-    ensures { Gives (λ x. x) result (read forms.line_of forms.return_value (words line.now tokens.now)) }
+fn return_value(alloc: Global, at: Cursor) -> Result<Line, Stop>
+    ensures { Gives (λ x. x) result (read forms.line_of forms.return_value (left at.entry)) }
 {
-    let (value, rest) = typed(alloc, Kind::Value, line, tokens)?;
+    let (value, rest) = typed(alloc, Kind::Value, at)?;
     finish(
-        line,
         rest,
-        does(Op::Ret, Args::one(value), Names::new(alloc)),
+        without_result(Op::Ret, Args::one(value), Names::new(alloc)),
     )
 }
 
 /// A return.
 #[tactic(auto, unfolding(crate::specs::Forms::returns))]
-fn returns(alloc: Global, line: &[u8], tokens: &[Token]) -> Result<Line, Stop>
-    ensures { Gives (λ x. x) result (read forms.line_of forms.returns (words line.now tokens.now)) }
+fn returns(alloc: Global, at: Cursor) -> Result<Line, Stop>
+    ensures { Gives (λ x. x) result (read forms.line_of forms.returns (left at.entry)) }
 {
-    match expect(line, tokens, b"void") {
-        Ok(rest) => finish(line, rest, does(Op::Ret, Args::none(), Names::new(alloc))),
-        Err(Stop::NotALine) => return_value(alloc, line, tokens),
-        Err(Stop::OutOfMemory) => Err(Stop::OutOfMemory),
+    match at.expect(b"void") {
+        Err(Stop::NotALine) => return_value(alloc, at),
+        found => {
+            let rest = found?;
+            finish(
+                rest,
+                without_result(Op::Ret, Args::none(), Names::new(alloc)),
+            )
+        }
     }
 }
 
 /// A branch on a condition.
 #[tactic(auto, unfolding(crate::specs::Forms::branch))]
-fn branch(alloc: Global, line: &[u8], tokens: &[Token]) -> Result<Line, Stop>
-    ensures { Gives (λ x. x) result (read forms.line_of forms.branch (words line.now tokens.now)) }
+fn branch(alloc: Global, at: Cursor) -> Result<Line, Stop>
+    ensures { Gives (λ x. x) result (read forms.line_of forms.branch (left at.entry)) }
 {
-    let (condition, rest) = typed(alloc, Kind::Bit, line, tokens)?;
-    let (first, rest) = also_target(alloc, line, rest)?;
-    let (second, rest) = also_target(alloc, line, rest)?;
+    let (condition, rest) = typed(alloc, Kind::Bit, at)?;
+    let (first, rest) = next_target(alloc, rest)?;
+    let (second, rest) = next_target(alloc, rest)?;
     let args = Args::one(condition);
     let mut labels = one_label(alloc, first)?;
     labels.push(second)?;
-    finish(line, rest, does(Op::CondBr { yes: 0, no: 1 }, args, labels))
+    finish(
+        rest,
+        without_result(Op::CondBr { yes: 0, no: 1 }, args, labels),
+    )
 }
 
 /// A branch.
 #[tactic(auto, unfolding(crate::specs::Forms::jump))]
-fn jump(alloc: Global, line: &[u8], tokens: &[Token]) -> Result<Line, Stop>
-    ensures { Gives (λ x. x) result (read forms.line_of forms.jump (words line.now tokens.now)) }
+fn jump(alloc: Global, at: Cursor) -> Result<Line, Stop>
+    ensures { Gives (λ x. x) result (read forms.line_of forms.jump (left at.entry)) }
 {
-    match target(alloc, line, tokens) {
-        Ok((block, rest)) => {
+    match target(alloc, at) {
+        Err(Stop::NotALine) => branch(alloc, at),
+        found => {
+            let (block, rest) = found?;
             let labels = one_label(alloc, block)?;
-            finish(line, rest, does(Op::Br { to: 0 }, Args::none(), labels))
+            finish(rest, without_result(Op::Br { to: 0 }, Args::none(), labels))
         }
-        Err(Stop::NotALine) => branch(alloc, line, tokens),
-        Err(Stop::OutOfMemory) => Err(Stop::OutOfMemory),
     }
 }
 
 /// A switch up to its cases.
 #[tactic(auto, unfolding(crate::specs::Forms::switch))]
-fn switch(alloc: Global, line: &[u8], tokens: &[Token]) -> Result<Line, Stop>
-    ensures { Gives (λ x. x) result (read forms.line_of forms.switch (words line.now tokens.now)) }
+fn switch(alloc: Global, at: Cursor) -> Result<Line, Stop>
+    ensures { Gives (λ x. x) result (read forms.line_of forms.switch (left at.entry)) }
 {
-    let (value, rest) = typed(alloc, Kind::Integer, line, tokens)?;
-    let (block, rest) = also_target(alloc, line, rest)?;
-    let rest = expect(line, rest, b"[")?;
+    let (value, rest) = typed(alloc, Kind::Integer, at)?;
+    let (block, rest) = next_target(alloc, rest)?;
+    let rest = rest.expect(b"[")?;
     let args = Args::one(value);
     let labels = one_label(alloc, block)?;
     let op = Op::Switch {
@@ -140,23 +148,22 @@ fn switch(alloc: Global, line: &[u8], tokens: &[Token]) -> Result<Line, Stop>
         cases: Lits::new(alloc),
         to: Numbers::new(alloc),
     };
-    finish(line, rest, does(op, args, labels))
+    finish(rest, without_result(op, args, labels))
 }
 
-/// What stands behind the keyword of an operation without a result.
+/// What stands after the keyword of an operation without a result.
 #[tactic(auto, unfolding(crate::specs::Forms::by_act))]
-fn by_act(alloc: Global, act: Act, line: &[u8], tokens: &[Token]) -> Result<Line, Stop>
-    ensures { Gives (λ x. x) result (read forms.line_of (forms.by_act act) (words line.now tokens.now)) }
+fn by_act(alloc: Global, act: Act, at: Cursor) -> Result<Line, Stop>
+    ensures { Gives (λ x. x) result (read forms.line_of (forms.by_act act) (left at.entry)) }
 {
     match act {
-        Act::Store => store(alloc, line, tokens),
-        Act::Ret => returns(alloc, line, tokens),
-        Act::Br => jump(alloc, line, tokens),
-        Act::Switch => switch(alloc, line, tokens),
+        Act::Store => store(alloc, at),
+        Act::Ret => returns(alloc, at),
+        Act::Br => jump(alloc, at),
+        Act::Switch => switch(alloc, at),
         Act::Unreachable => finish(
-            line,
-            tokens,
-            does(Op::Unreachable, Args::none(), Names::new(alloc)),
+            at,
+            without_result(Op::Unreachable, Args::none(), Names::new(alloc)),
         ),
     }
 }
@@ -172,68 +179,76 @@ fn number_literal(alloc: Global, ty: Ty, n: u64) -> Result<Literal, AllocError>
 
 /// A case of a switch.
 #[tactic(auto, unfolding(crate::specs::Forms::choice))]
-fn choice(alloc: Global, line: &[u8], tokens: &[Token]) -> Result<Line, Stop>
-    ensures { Gives (λ x. x) result (read forms.line_of forms.choice (words line.now tokens.now)) }
+fn choice(alloc: Global, at: Cursor) -> Result<Line, Stop>
+    ensures { Gives (λ x. x) result (read forms.line_of forms.choice (left at.entry)) }
 {
-    let (ty, rest) = kind(Kind::Integer, line, tokens)?;
-    let (n, rest) = case_number(ty, line, rest)?;
-    let (label, rest) = also_target(alloc, line, rest)?;
+    let (ty, rest) = kind(Kind::Integer, at)?;
+    let (n, rest) = case_number(ty, rest)?;
+    let (label, rest) = next_target(alloc, rest)?;
     let value = number_literal(alloc, ty, n)?;
-    finish(line, rest, Line::Case { value, label })
+    finish(rest, Line::Case { value, label })
 }
 
 /// A case of a switch, or its end.
 #[tactic(auto, unfolding(crate::specs::Forms::choices))]
-fn choices(alloc: Global, line: &[u8], tokens: &[Token]) -> Result<Line, Stop>
-    ensures { Gives (λ x. x) result (read forms.line_of forms.choices (words line.now tokens.now)) }
+fn choices(alloc: Global, at: Cursor) -> Result<Line, Stop>
+    ensures { Gives (λ x. x) result (read forms.line_of forms.choices (left at.entry)) }
 {
-    match expect(line, tokens, b"]") {
-        Ok(rest) => finish(line, rest, Line::CasesEnd),
-        Err(Stop::NotALine) => choice(alloc, line, tokens),
-        Err(Stop::OutOfMemory) => Err(Stop::OutOfMemory),
+    match at.expect(b"]") {
+        Err(Stop::NotALine) => choice(alloc, at),
+        found => {
+            let rest = found?;
+            finish(rest, Line::CasesEnd)
+        }
     }
 }
 
 /// The keyword of an operation without a result.
-fn act<'a>(line: &'a [u8], tokens: &'a [Token]) -> Result<(Act, &'a [Token]), Stop>
-    ensures { Gives (λ x. (x.0, words line.now x.1.now)) result (one values.act_of (words line.now tokens.now)) }
+fn act<'a>(at: Cursor<'a>) -> Result<(Act, Cursor<'a>), Stop>
+    ensures { Gives (λ x. (x.0, left x.1)) result (one values.act_of (left at.entry)) }
 {
-    let (word, rest) = next(line, tokens)?;
+    let (word, rest) = at.next()?;
     Ok((act_of(word)?, rest))
 }
 
 /// An instruction without a result, or a line of a switch.
 #[tactic(auto, unfolding(crate::specs::Forms::act_line))]
-fn act_line(alloc: Global, line: &[u8], tokens: &[Token]) -> Result<Line, Stop>
-    ensures { Gives (λ x. x) result (read forms.line_of forms.act_line (words line.now tokens.now)) }
+fn act_line(alloc: Global, at: Cursor) -> Result<Line, Stop>
+    ensures { Gives (λ x. x) result (read forms.line_of forms.act_line (left at.entry)) }
 {
-    match act(line, tokens) {
-        Ok((act, rest)) => by_act(alloc, act, line, rest),
-        Err(Stop::NotALine) => choices(alloc, line, tokens),
-        Err(Stop::OutOfMemory) => Err(Stop::OutOfMemory),
+    match act(at) {
+        Err(Stop::NotALine) => choices(alloc, at),
+        found => {
+            let (act, rest) = found?;
+            by_act(alloc, act, rest)
+        }
     }
 }
 
 /// A label, or a line without a result.
 #[tactic(auto, unfolding(crate::specs::Forms::plain_line))]
-fn plain_line(alloc: Global, line: &[u8], tokens: &[Token]) -> Result<Line, Stop>
-    ensures { Gives (λ x. x) result (read forms.line_of forms.plain_line (words line.now tokens.now)) }
+fn plain_line(alloc: Global, at: Cursor) -> Result<Line, Stop>
+    ensures { Gives (λ x. x) result (read forms.line_of forms.plain_line (left at.entry)) }
 {
-    match labelled(alloc, line, tokens) {
-        Ok((name, rest)) => finish(line, rest, Line::Label(name)),
-        Err(Stop::NotALine) => act_line(alloc, line, tokens),
-        Err(Stop::OutOfMemory) => Err(Stop::OutOfMemory),
+    match labelled(alloc, at) {
+        Err(Stop::NotALine) => act_line(alloc, at),
+        found => {
+            let (name, rest) = found?;
+            finish(rest, Line::Label(name))
+        }
     }
 }
 
 /// Any form of a line of a body, but the empty line, the brace and the call.
 #[tactic(auto, unfolding(crate::specs::Forms::form))]
-pub fn form(alloc: Global, line: &[u8], tokens: &[Token]) -> Result<Line, Stop>
-    ensures { Gives (λ x. x) result (read forms.line_of forms.form (words line.now tokens.now)) }
+pub fn form(alloc: Global, at: Cursor) -> Result<Line, Stop>
+    ensures { Gives (λ x. x) result (read forms.line_of forms.form (left at.entry)) }
 {
-    match local(alloc, line, tokens) {
-        Ok((name, rest)) => value_line(alloc, name, line, rest),
-        Err(Stop::NotALine) => plain_line(alloc, line, tokens),
-        Err(Stop::OutOfMemory) => Err(Stop::OutOfMemory),
+    match local(alloc, at) {
+        Err(Stop::NotALine) => plain_line(alloc, at),
+        found => {
+            let (name, rest) = found?;
+            value_line(alloc, name, rest)
+        }
     }
 }

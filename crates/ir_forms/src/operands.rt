@@ -3,150 +3,136 @@
 //! Each reader stops where no such part stands there.
 
 ghost use Rattle.std.specs.Prelude.{◌≡◌};
-ghost use Rattle.ir_lex.specs.Words.{words};
+ghost use Rattle.ir_words.specs.Cursors.{left};
 ghost use Rattle.ir_words.specs.Words.{Gives, one};
 ghost use Rattle.ir_words.specs.Values as values;
 ghost use Rattle.ir_forms.specs.Operands as operands;
 
 use ir_draft::{Arg, Stop, Written};
-use ir_lex::{Token, text};
 use ir_types::{Bytes, Lits, Ty};
-use ir_words::kinds::{Kind, bits_of, is_pointer, lanes_of};
+use ir_words::cursor::Cursor;
+use ir_words::kinds::{Kind, is_pointer, lanes_of};
 use ir_words::literals::{lanes, literal};
 use ir_words::types::{kind, row_of};
 use ir_words::values::{align_of, bits_number, label_of, local_of, symbol_of};
-use ir_words::words::{behind, expect, is_first, next};
 use std::alloc::Global;
 use vx_num::Lane;
 
 /// A local.
-pub fn local<'a>(
-    alloc: Global,
-    line: &'a [u8],
-    tokens: &'a [Token],
-) -> Result<(Bytes, &'a [Token]), Stop>
-    ensures { Gives (λ x. (x.0, words line.now x.1.now)) result (one values.local_of (words line.now tokens.now)) }
+pub fn local<'a>(alloc: Global, at: Cursor<'a>) -> Result<(Bytes, Cursor<'a>), Stop>
+    ensures { Gives (λ x. (x.0, left x.1)) result (one values.local_of (left at.entry)) }
 {
-    let (word, rest) = next(line, tokens)?;
+    let (word, rest) = at.next()?;
     Ok((local_of(alloc, word)?, rest))
 }
 
 /// A symbol, where a pointer is wanted.
 #[tactic(auto, unfolding(crate::specs::Operands::symbol_at))]
-fn symbol<'a>(
-    alloc: Global,
-    ty: Ty,
-    line: &'a [u8],
-    tokens: &'a [Token],
-) -> Result<(Bytes, &'a [Token]), Stop>
-    ensures { Gives (λ x. (x.0, words line.now x.1.now)) result (operands.symbol_at ty (words line.now tokens.now)) }
+fn symbol<'a>(alloc: Global, ty: Ty, at: Cursor<'a>) -> Result<(Bytes, Cursor<'a>), Stop>
+    ensures { Gives (λ x. (x.0, left x.1)) result (operands.symbol_at ty (left at.entry)) }
 {
     if !is_pointer(ty) {
         return Err(Stop::NotALine);
     }
-    let (word, rest) = next(line, tokens)?;
+    let (word, rest) = at.next()?;
     Ok((symbol_of(alloc, word)?, rest))
 }
 
 /// A symbol or a literal of a type.
 #[tactic(auto, unfolding(crate::specs::Operands::unnamed_at))]
-fn unnamed<'a>(
-    alloc: Global,
-    ty: Ty,
-    line: &'a [u8],
-    tokens: &'a [Token],
-) -> Result<(Written, &'a [Token]), Stop>
-    ensures { Gives (λ x. (x.0, words line.now x.1.now)) result (operands.unnamed_at ty (words line.now tokens.now)) }
+fn unnamed<'a>(alloc: Global, ty: Ty, at: Cursor<'a>) -> Result<(Written, Cursor<'a>), Stop>
+    ensures { Gives (λ x. (x.0, left x.1)) result (operands.unnamed_at ty (left at.entry)) }
 {
-    match symbol(alloc, ty, line, tokens) {
-        Ok((name, rest)) => Ok((Written::Symbol(name), rest)),
-        Err(Stop::NotALine) => literal(alloc, ty, line, tokens),
-        Err(Stop::OutOfMemory) => Err(Stop::OutOfMemory),
+    match symbol(alloc, ty, at) {
+        Err(Stop::NotALine) => literal(alloc, ty, at),
+        found => {
+            let (name, rest) = found?;
+            Ok((Written::Symbol(name), rest))
+        }
     }
 }
 
 /// An operand of a type.
 #[tactic(auto, unfolding(crate::specs::Operands::operand_at))]
-pub fn operand<'a>(
-    alloc: Global,
-    ty: Ty,
-    line: &'a [u8],
-    tokens: &'a [Token],
-) -> Result<(Written, &'a [Token]), Stop>
-    ensures { Gives (λ x. (x.0, words line.now x.1.now)) result (operands.operand_at ty (words line.now tokens.now)) }
+pub fn operand<'a>(alloc: Global, ty: Ty, at: Cursor<'a>) -> Result<(Written, Cursor<'a>), Stop>
+    ensures { Gives (λ x. (x.0, left x.1)) result (operands.operand_at ty (left at.entry)) }
 {
-    match local(alloc, line, tokens) {
-        Ok((name, rest)) => Ok((Written::Local(name), rest)),
-        Err(Stop::NotALine) => unnamed(alloc, ty, line, tokens),
-        Err(Stop::OutOfMemory) => Err(Stop::OutOfMemory),
+    match local(alloc, at) {
+        Err(Stop::NotALine) => unnamed(alloc, ty, at),
+        found => {
+            let (name, rest) = found?;
+            Ok((Written::Local(name), rest))
+        }
     }
 }
 
 /// A comma and an operand.
-#[tactic(auto, unfolding(crate::specs::Operands::other_at))]
-pub(crate) fn other<'a>(
+#[tactic(auto, unfolding(crate::specs::Operands::next_operand_at))]
+pub(crate) fn next_operand<'a>(
     alloc: Global,
     ty: Ty,
-    line: &'a [u8],
-    tokens: &'a [Token],
-) -> Result<(Written, &'a [Token]), Stop>
-    ensures { Gives (λ x. (x.0, words line.now x.1.now)) result (operands.other_at ty (words line.now tokens.now)) }
+    at: Cursor<'a>,
+) -> Result<(Written, Cursor<'a>), Stop>
+    ensures { Gives (λ x. (x.0, left x.1)) result (operands.next_operand_at ty (left at.entry)) }
 {
-    let rest = expect(line, tokens, b",")?;
-    operand(alloc, ty, line, rest)
+    let rest = at.expect(b",")?;
+    operand(alloc, ty, rest)
 }
 
-/// An operand behind its type, which is of a kind.
+/// An operand after its type, which is of a kind.
 #[tactic(auto, unfolding(crate::specs::Operands::typed_at))]
 pub(crate) fn typed<'a>(
     alloc: Global,
     wanted: Kind,
-    line: &'a [u8],
-    tokens: &'a [Token],
-) -> Result<(Arg, &'a [Token]), Stop>
-    ensures { Gives (λ x. (x.0, words line.now x.1.now)) result (operands.typed_at wanted (words line.now tokens.now)) }
+    at: Cursor<'a>,
+) -> Result<(Arg, Cursor<'a>), Stop>
+    ensures { Gives (λ x. (x.0, left x.1)) result (operands.typed_at wanted (left at.entry)) }
 {
-    let (ty, rest) = kind(wanted, line, tokens)?;
-    let (opd, rest) = operand(alloc, ty, line, rest)?;
+    let (ty, rest) = kind(wanted, at)?;
+    let (opd, rest) = operand(alloc, ty, rest)?;
     Ok((Arg { ty, opd }, rest))
 }
 
-/// A comma and an operand behind its type.
-#[tactic(auto, unfolding(crate::specs::Operands::also_at))]
-pub(crate) fn also<'a>(
+/// A comma and an operand after its type.
+#[tactic(auto, unfolding(crate::specs::Operands::next_typed_at))]
+pub(crate) fn next_typed<'a>(
     alloc: Global,
     wanted: Kind,
-    line: &'a [u8],
-    tokens: &'a [Token],
-) -> Result<(Arg, &'a [Token]), Stop>
-    ensures { Gives (λ x. (x.0, words line.now x.1.now)) result (operands.also_at wanted (words line.now tokens.now)) }
+    at: Cursor<'a>,
+) -> Result<(Arg, Cursor<'a>), Stop>
+    ensures { Gives (λ x. (x.0, left x.1)) result (operands.next_typed_at wanted (left at.entry)) }
 {
-    let rest = expect(line, tokens, b",")?;
-    typed(alloc, wanted, line, rest)
+    let rest = at.expect(b",")?;
+    typed(alloc, wanted, rest)
 }
 
-/// An align behind its comma.
-#[tactic(auto, unfolding(crate::specs::Operands::given_at))]
-fn given<'a>(line: &'a [u8], tokens: &'a [Token]) -> Result<(Option<u64>, &'a [Token]), Stop>
-    ensures { Gives (λ x. (x.0, words line.now x.1.now)) result (operands.given_at (words line.now tokens.now)) }
+/// An align.
+fn align<'a>(at: Cursor<'a>) -> Result<(u64, Cursor<'a>), Stop>
+    ensures { Gives (λ x. (x.0, left x.1)) result (one values.align_of (left at.entry)) }
 {
-    let rest = expect(line, tokens, b"align")?;
-    let (word, rest) = next(line, rest)?;
-    Ok((Some(align_of(word)?), rest))
+    let (word, rest) = at.next()?;
+    Ok((align_of(word)?, rest))
+}
+
+/// An align after its comma.
+#[tactic(auto, unfolding(crate::specs::Operands::given_at))]
+fn given<'a>(at: Cursor<'a>) -> Result<(Option<u64>, Cursor<'a>), Stop>
+    ensures { Gives (λ x. (x.0, left x.1)) result (operands.given_at (left at.entry)) }
+{
+    let rest = at.expect(b"align")?;
+    let (align, rest) = align(rest)?;
+    Ok((Some(align), rest))
 }
 
 /// An align, where a comma follows.
 #[tactic(auto, unfolding(crate::specs::Operands::aligned_at))]
-pub(crate) fn aligned<'a>(
-    line: &'a [u8],
-    tokens: &'a [Token],
-) -> Result<(Option<u64>, &'a [Token]), Stop>
-    ensures { Gives (λ x. (x.0, words line.now x.1.now)) result (operands.aligned_at (words line.now tokens.now)) }
+pub(crate) fn aligned<'a>(at: Cursor<'a>) -> Result<(Option<u64>, Cursor<'a>), Stop>
+    ensures { Gives (λ x. (x.0, left x.1)) result (operands.aligned_at (left at.entry)) }
 {
-    if is_first(line, tokens, b",") {
-        return given(line, behind(line, tokens));
+    if at.begins(b",") {
+        return given(at.after_first());
     }
-    Ok((None, tokens))
+    Ok((None, at))
 }
 
 /// Whether an entry of a mask is poison or below `n`.
@@ -171,7 +157,7 @@ fn all_entries(n: u64, lanes: &[Lane]) -> bool
 fn masked_by(ty: Ty, row: Ty, entries: Lits) -> Result<(Ty, Lits), Stop>
     ensures { Gives (λ x. x) result (operands.masked_by ty row entries) }
 {
-    let shuffled = row_of(u64::from(lanes_of(row)), bits_of(ty))?;
+    let shuffled = row_of(u64::from(lanes_of(row)), ty.lane_width())?;
     if all_entries(2 * u64::from(lanes_of(ty)), entries.as_lanes().as_slice()) {
         return Ok((shuffled, entries));
     }
@@ -183,70 +169,51 @@ fn masked_by(ty: Ty, row: Ty, entries: Lits) -> Result<(Ty, Lits), Stop>
 pub(crate) fn mask<'a>(
     alloc: Global,
     ty: Ty,
-    line: &'a [u8],
-    tokens: &'a [Token],
-) -> Result<((Ty, Lits), &'a [Token]), Stop>
-    ensures { Gives (λ x. (x.0, words line.now x.1.now)) result (operands.mask_at ty (words line.now tokens.now)) }
+    at: Cursor<'a>,
+) -> Result<((Ty, Lits), Cursor<'a>), Stop>
+    ensures { Gives (λ x. (x.0, left x.1)) result (operands.mask_at ty (left at.entry)) }
 {
-    let rest = expect(line, tokens, b",")?;
-    let (row, rest) = kind(Kind::Mask, line, rest)?;
-    let (entries, rest) = lanes(alloc, row, line, rest)?;
+    let rest = at.expect(b",")?;
+    let (row, rest) = kind(Kind::Mask, rest)?;
+    let (entries, rest) = lanes(alloc, row, rest)?;
     Ok((masked_by(ty, row, entries)?, rest))
 }
 
 /// A block.
 #[tactic(auto, unfolding(crate::specs::Operands::target_at))]
-pub(crate) fn target<'a>(
-    alloc: Global,
-    line: &'a [u8],
-    tokens: &'a [Token],
-) -> Result<(Bytes, &'a [Token]), Stop>
-    ensures { Gives (λ x. (x.0, words line.now x.1.now)) result (operands.target_at (words line.now tokens.now)) }
+pub(crate) fn target<'a>(alloc: Global, at: Cursor<'a>) -> Result<(Bytes, Cursor<'a>), Stop>
+    ensures { Gives (λ x. (x.0, left x.1)) result (operands.target_at (left at.entry)) }
 {
-    let rest = expect(line, tokens, b"label")?;
-    local(alloc, line, rest)
+    let rest = at.expect(b"label")?;
+    local(alloc, rest)
 }
 
 /// A comma and a block.
-#[tactic(auto, unfolding(crate::specs::Operands::also_target_at))]
-pub(crate) fn also_target<'a>(
-    alloc: Global,
-    line: &'a [u8],
-    tokens: &'a [Token],
-) -> Result<(Bytes, &'a [Token]), Stop>
-    ensures { Gives (λ x. (x.0, words line.now x.1.now)) result (operands.also_target_at (words line.now tokens.now)) }
+#[tactic(auto, unfolding(crate::specs::Operands::next_target_at))]
+pub(crate) fn next_target<'a>(alloc: Global, at: Cursor<'a>) -> Result<(Bytes, Cursor<'a>), Stop>
+    ensures { Gives (λ x. (x.0, left x.1)) result (operands.next_target_at (left at.entry)) }
 {
-    let rest = expect(line, tokens, b",")?;
-    target(alloc, line, rest)
+    let rest = at.expect(b",")?;
+    target(alloc, rest)
 }
 
 /// The name of a label, with its colon.
 #[tactic(auto, unfolding(crate::specs::Operands::labelled_at))]
-pub(crate) fn labelled<'a>(
-    alloc: Global,
-    line: &'a [u8],
-    tokens: &'a [Token],
-) -> Result<(Bytes, &'a [Token]), Stop>
-    ensures { Gives (λ x. (x.0, words line.now x.1.now)) result (operands.labelled_at (words line.now tokens.now)) }
+pub(crate) fn labelled<'a>(alloc: Global, at: Cursor<'a>) -> Result<(Bytes, Cursor<'a>), Stop>
+    ensures { Gives (λ x. (x.0, left x.1)) result (operands.labelled_at (left at.entry)) }
 {
-    match tokens {
-        [token, rest @ ..] if is_first(line, rest, b":") => Ok((
-            label_of(alloc, text(line, *token))?,
-            behind(line, rest),
-        )),
-        _ => Err(Stop::NotALine),
+    let (word, rest) = at.next()?;
+    if !rest.begins(b":") {
+        return Err(Stop::NotALine);
     }
+    Ok((label_of(alloc, word)?, rest.after_first()))
 }
 
 /// The number of a case.
 #[tactic(auto, unfolding(crate::specs::Operands::case_at))]
-pub(crate) fn case_number<'a>(
-    ty: Ty,
-    line: &'a [u8],
-    tokens: &'a [Token],
-) -> Result<(u64, &'a [Token]), Stop>
-    ensures { Gives (λ x. (x.0, words line.now x.1.now)) result (operands.case_at ty (words line.now tokens.now)) }
+pub(crate) fn case_number<'a>(ty: Ty, at: Cursor<'a>) -> Result<(u64, Cursor<'a>), Stop>
+    ensures { Gives (λ x. (x.0, left x.1)) result (operands.case_at ty (left at.entry)) }
 {
-    let (word, rest) = next(line, tokens)?;
-    Ok((bits_number(bits_of(ty), word)?, rest))
+    let (word, rest) = at.next()?;
+    Ok((bits_number(ty.lane_width(), word)?, rest))
 }

@@ -1,88 +1,59 @@
 //! The instructions that have a result.
 //!
-//! Each function reads what stands behind the keyword of its form to the end of the line.
+//! Each function reads what stands after the keyword of its form to the end of the line.
 
 ghost use Rattle.std.specs.Prelude.{◌≡◌, ◌∷◌, []};
-ghost use Rattle.ir_lex.specs.Words.{words};
+ghost use Rattle.ir_words.specs.Cursors.{left};
 ghost use Rattle.ir_words.specs.Words.{Gives, one};
 ghost use Rattle.ir_words.specs.Values as values;
 ghost use Rattle.ir_forms.specs.Grammar.{read, ends};
 ghost use Rattle.ir_forms.specs.Forms as forms;
 
-use crate::operands::{aligned, also, mask, operand, other, typed};
+use crate::operands::{aligned, mask, next_operand, next_typed, operand, typed};
 use crate::pairs::{Incoming, pairs};
 use ir_draft::{Arg, Args, Line, Stmt, Stop};
-use ir_lex::Token;
 use ir_types::{Bytes, Elem, Names, Op, Ty};
+use ir_words::cursor::Cursor;
 use ir_words::flags::{FlagSet, flags, has};
-use ir_words::kinds::{Kind, bits_of};
+use ir_words::kinds::Kind;
 use ir_words::opcode::{Opcode, opcode_of, pred_of};
 use ir_words::types::{elem, kind};
-use ir_words::words::{expect, next};
 use std::alloc::Global;
 use vx_list::Seq;
 use vx_num::{BinOp, CastOp, Flags, Pred};
 
 /// The form, where the line ends.
-pub(crate) fn finish(line: &[u8], tokens: &[Token], form: Line) -> Result<Line, Stop>
-    ensures { Gives (λ x. x) result (ends form (words line.now tokens.now)) }
+pub(crate) fn finish(at: Cursor, form: Line) -> Result<Line, Stop>
+    ensures { Gives (λ x. x) result (ends form (left at.entry)) }
 {
-    let _ = line;
-    match tokens {
+    match at.tokens {
         [] => Ok(form),
         _ => Err(Stop::NotALine),
     }
 }
 
-/// An instruction with a result and one operand.
-fn gives_one(alloc: Global, name: Bytes, ty: Ty, op: Op, a: Arg) -> Line
-    ensures { result ≡ forms.gives name ty op (a ∷ []) }
+/// An instruction with a result.
+fn gives(alloc: Global, name: Bytes, ty: Ty, op: Op, args: Args) -> Line
+    ensures { result ≡ forms.gives name ty op args }
 {
     Line::Stmt(Stmt {
         result: Some(name),
         ty,
         op,
-        args: Args::one(a),
+        args,
         labels: Names::new(alloc),
     })
 }
 
-/// An instruction with a result and two operands.
-fn gives_two(alloc: Global, name: Bytes, ty: Ty, op: Op, a: Arg, b: Arg) -> Line
-    ensures { result ≡ forms.gives name ty op (a ∷ b ∷ []) }
-{
-    Line::Stmt(Stmt {
-        result: Some(name),
-        ty,
-        op,
-        args: Args::two(a, b),
-        labels: Names::new(alloc),
-    })
-}
-
-/// An instruction with a result and three operands.
-fn gives_three(
-    alloc: Global,
-    name: Bytes,
-    ty: Ty,
-    op: Op,
-    a: Arg,
-    b: Arg,
-    c: Arg,
-) -> Result<Line, Stop>
-    ensures { Gives (λ x. x) result (Some (forms.gives name ty op (a ∷ b ∷ c ∷ []))) }
+/// Three operands.
+fn three(alloc: Global, a: Arg, b: Arg, c: Arg) -> Result<Args, Stop>
+    ensures { Gives (λ x. x) result (Some (a ∷ b ∷ c ∷ [])) }
 {
     let mut args = Seq::with_capacity(alloc, 3)?;
     args.push(a)?;
     args.push(b)?;
     args.push(c)?;
-    Ok(Line::Stmt(Stmt {
-        result: Some(name),
-        ty,
-        op,
-        args: Args::from_list(args),
-        labels: Names::new(alloc),
-    }))
+    Ok(Args::from_list(args))
 }
 
 /// The flags that a binary operation may have.
@@ -98,51 +69,39 @@ fn bin_flags(op: BinOp) -> FlagSet
 }
 
 /// The flags that these words are.
-fn flags_of(line: &[u8], tokens: &[Token]) -> Flags
-    ensures { result ≡ forms.flags_of (words line.now tokens.now) }
+fn flags_of(at: Cursor) -> Flags
+    ensures { result ≡ forms.flags_of (left at.entry) }
 {
     Flags {
-        nuw: has(line, tokens, b"nuw"),
-        nsw: has(line, tokens, b"nsw"),
-        exact: has(line, tokens, b"exact"),
-        disjoint: has(line, tokens, b"disjoint"),
+        nuw: has(at, b"nuw"),
+        nsw: has(at, b"nsw"),
+        exact: has(at, b"exact"),
+        disjoint: has(at, b"disjoint"),
     }
 }
 
 /// A binary operation.
 #[tactic(auto, using(crate::proofs::LineEnds::goes_on), unfolding(crate::specs::Forms::binary))]
-fn binary(
-    alloc: Global,
-    name: Bytes,
-    op: BinOp,
-    line: &[u8],
-    tokens: &[Token],
-) -> Result<Line, Stop>
-    ensures { Gives (λ x. x) result (read forms.line_of (forms.binary name op) (words line.now tokens.now)) }
+fn binary(alloc: Global, name: Bytes, op: BinOp, at: Cursor) -> Result<Line, Stop>
+    ensures { Gives (λ x. x) result (read forms.line_of (forms.binary name op) (left at.entry)) }
 {
-    let (found, rest) = flags(bin_flags(op), line, tokens)?;
-    let (ty, rest) = kind(Kind::Number, line, rest)?;
-    let (a, rest) = operand(alloc, ty, line, rest)?;
-    let (b, rest) = other(alloc, ty, line, rest)?;
-    let flags = flags_of(line, found);
-    let [] = rest else {
+    let (found, rest) = flags(bin_flags(op), at)?;
+    let (ty, rest) = kind(Kind::Number, rest)?;
+    let (a, rest) = operand(alloc, ty, rest)?;
+    let (b, rest) = next_operand(alloc, ty, rest)?;
+    let flags = flags_of(found);
+    let [] = rest.tokens else {
         return Err(Stop::NotALine);
     };
-    Ok(gives_two(
-        alloc,
-        name,
-        ty,
-        Op::Bin { op, flags },
-        Arg { ty, opd: a },
-        Arg { ty, opd: b },
-    ))
+    let args = Args::two(Arg { ty, opd: a }, Arg { ty, opd: b });
+    Ok(gives(alloc, name, ty, Op::Bin { op, flags }, args))
 }
 
 /// What a comparison asks.
-fn comparison<'a>(line: &'a [u8], tokens: &'a [Token]) -> Result<(Pred, &'a [Token]), Stop>
-    ensures { Gives (λ x. (x.0, words line.now x.1.now)) result (one values.pred_of (words line.now tokens.now)) }
+fn comparison<'a>(at: Cursor<'a>) -> Result<(Pred, Cursor<'a>), Stop>
+    ensures { Gives (λ x. (x.0, left x.1)) result (one values.pred_of (left at.entry)) }
 {
-    let (word, rest) = next(line, tokens)?;
+    let (word, rest) = at.next()?;
     Ok((pred_of(word)?, rest))
 }
 
@@ -158,25 +117,19 @@ fn truth_of(ty: Ty) -> Ty
 
 /// A comparison.
 #[tactic(auto, using(crate::proofs::LineEnds::goes_on), unfolding(crate::specs::Forms::compare))]
-fn compare(alloc: Global, name: Bytes, line: &[u8], tokens: &[Token]) -> Result<Line, Stop>
-    ensures { Gives (λ x. x) result (read forms.line_of (forms.compare name) (words line.now tokens.now)) }
+fn compare(alloc: Global, name: Bytes, at: Cursor) -> Result<Line, Stop>
+    ensures { Gives (λ x. x) result (read forms.line_of (forms.compare name) (left at.entry)) }
 {
-    let (_, rest) = flags(FlagSet::SameSign, line, tokens)?;
-    let (pred, rest) = comparison(line, rest)?;
-    let (ty, rest) = kind(Kind::Number, line, rest)?;
-    let (a, rest) = operand(alloc, ty, line, rest)?;
-    let (b, rest) = other(alloc, ty, line, rest)?;
-    let [] = rest else {
+    let (_, rest) = flags(FlagSet::SameSign, at)?;
+    let (pred, rest) = comparison(rest)?;
+    let (ty, rest) = kind(Kind::Number, rest)?;
+    let (a, rest) = operand(alloc, ty, rest)?;
+    let (b, rest) = next_operand(alloc, ty, rest)?;
+    let [] = rest.tokens else {
         return Err(Stop::NotALine);
     };
-    Ok(gives_two(
-        alloc,
-        name,
-        truth_of(ty),
-        Op::Icmp { pred },
-        Arg { ty, opd: a },
-        Arg { ty, opd: b },
-    ))
+    let args = Args::two(Arg { ty, opd: a }, Arg { ty, opd: b });
+    Ok(gives(alloc, name, truth_of(ty), Op::Icmp { pred }, args))
 }
 
 /// The flags that a cast may have.
@@ -202,188 +155,148 @@ fn cast_kind(op: CastOp, ty: Ty) -> Kind
 
 /// A cast.
 #[tactic(auto, using(crate::proofs::LineEnds::goes_on), unfolding(crate::specs::Forms::convert))]
-fn convert(
-    alloc: Global,
-    name: Bytes,
-    op: CastOp,
-    line: &[u8],
-    tokens: &[Token],
-) -> Result<Line, Stop>
-    ensures { Gives (λ x. x) result (read forms.line_of (forms.convert name op) (words line.now tokens.now)) }
+fn convert(alloc: Global, name: Bytes, op: CastOp, at: Cursor) -> Result<Line, Stop>
+    ensures { Gives (λ x. x) result (read forms.line_of (forms.convert name op) (left at.entry)) }
 {
-    let (found, rest) = flags(cast_flags(op), line, tokens)?;
-    let (a, rest) = typed(alloc, Kind::Number, line, rest)?;
-    let rest = expect(line, rest, b"to")?;
-    let (ty, rest) = kind(cast_kind(op, a.ty), line, rest)?;
-    let nneg = has(line, found, b"nneg");
-    let [] = rest else {
+    let (found, rest) = flags(cast_flags(op), at)?;
+    let (a, rest) = typed(alloc, Kind::Number, rest)?;
+    let rest = rest.expect(b"to")?;
+    let (ty, rest) = kind(cast_kind(op, a.ty), rest)?;
+    let nneg = has(found, b"nneg");
+    let [] = rest.tokens else {
         return Err(Stop::NotALine);
     };
-    Ok(gives_one(alloc, name, ty, Op::Cast { op, nneg }, a))
+    Ok(gives(alloc, name, ty, Op::Cast { op, nneg }, Args::one(a)))
 }
 
 /// A choice of two values.
 #[tactic(auto, using(crate::proofs::LineEnds::goes_on), unfolding(crate::specs::Forms::select))]
-fn select(alloc: Global, name: Bytes, line: &[u8], tokens: &[Token]) -> Result<Line, Stop>
-    ensures { Gives (λ x. x) result (read forms.line_of (forms.select name) (words line.now tokens.now)) }
+fn select(alloc: Global, name: Bytes, at: Cursor) -> Result<Line, Stop>
+    ensures { Gives (λ x. x) result (read forms.line_of (forms.select name) (left at.entry)) }
 {
-    let (condition, rest) = typed(alloc, Kind::Choice, line, tokens)?;
-    let (a, rest) = also(alloc, Kind::ChosenBy(condition.ty), line, rest)?;
-    let (b, rest) = also(alloc, Kind::Same(a.ty), line, rest)?;
-    let [] = rest else {
+    let (condition, rest) = typed(alloc, Kind::Choice, at)?;
+    let (a, rest) = next_typed(alloc, Kind::ChosenBy(condition.ty), rest)?;
+    let (b, rest) = next_typed(alloc, Kind::Same(a.ty), rest)?;
+    let [] = rest.tokens else {
         return Err(Stop::NotALine);
     };
-    gives_three(alloc, name, a.ty, Op::Select, condition, a, b)
+    let ty = a.ty;
+    let args = three(alloc, condition, a, b)?;
+    Ok(gives(alloc, name, ty, Op::Select, args))
 }
 
 /// A lane of a vector.
 #[tactic(auto, using(crate::proofs::LineEnds::goes_on), unfolding(crate::specs::Forms::extract))]
-fn extract(alloc: Global, name: Bytes, line: &[u8], tokens: &[Token]) -> Result<Line, Stop>
-    ensures { Gives (λ x. x) result (read forms.line_of (forms.extract name) (words line.now tokens.now)) }
+fn extract(alloc: Global, name: Bytes, at: Cursor) -> Result<Line, Stop>
+    ensures { Gives (λ x. x) result (read forms.line_of (forms.extract name) (left at.entry)) }
 {
-    let (row, rest) = typed(alloc, Kind::Vector, line, tokens)?;
-    let (index, rest) = also(alloc, Kind::Integer, line, rest)?;
-    let ty = Ty::Int(bits_of(row.ty));
-    let [] = rest else {
+    let (row, rest) = typed(alloc, Kind::Vector, at)?;
+    let (index, rest) = next_typed(alloc, Kind::Integer, rest)?;
+    let ty = Ty::Int(row.ty.lane_width());
+    let [] = rest.tokens else {
         return Err(Stop::NotALine);
     };
-    Ok(gives_two(alloc, name, ty, Op::Extract, row, index))
+    Ok(gives(alloc, name, ty, Op::Extract, Args::two(row, index)))
 }
 
 /// A vector with another lane.
 #[tactic(auto, using(crate::proofs::LineEnds::goes_on), unfolding(crate::specs::Forms::insert))]
-fn insert(alloc: Global, name: Bytes, line: &[u8], tokens: &[Token]) -> Result<Line, Stop>
-    ensures { Gives (λ x. x) result (read forms.line_of (forms.insert name) (words line.now tokens.now)) }
+fn insert(alloc: Global, name: Bytes, at: Cursor) -> Result<Line, Stop>
+    ensures { Gives (λ x. x) result (read forms.line_of (forms.insert name) (left at.entry)) }
 {
-    let (row, rest) = typed(alloc, Kind::Vector, line, tokens)?;
-    let (lane, rest) = also(alloc, Kind::LaneOf(row.ty), line, rest)?;
-    let (index, rest) = also(alloc, Kind::Integer, line, rest)?;
-    let [] = rest else {
+    let (row, rest) = typed(alloc, Kind::Vector, at)?;
+    let (lane, rest) = next_typed(alloc, Kind::LaneOf(row.ty), rest)?;
+    let (index, rest) = next_typed(alloc, Kind::Integer, rest)?;
+    let [] = rest.tokens else {
         return Err(Stop::NotALine);
     };
-    gives_three(alloc, name, row.ty, Op::Insert, row, lane, index)
+    let ty = row.ty;
+    let args = three(alloc, row, lane, index)?;
+    Ok(gives(alloc, name, ty, Op::Insert, args))
 }
 
 /// Lanes of two vectors.
 #[tactic(auto, using(crate::proofs::LineEnds::goes_on), unfolding(crate::specs::Forms::shuffle))]
-fn shuffle(alloc: Global, name: Bytes, line: &[u8], tokens: &[Token]) -> Result<Line, Stop>
-    ensures { Gives (λ x. x) result (read forms.line_of (forms.shuffle name) (words line.now tokens.now)) }
+fn shuffle(alloc: Global, name: Bytes, at: Cursor) -> Result<Line, Stop>
+    ensures { Gives (λ x. x) result (read forms.line_of (forms.shuffle name) (left at.entry)) }
 {
-    let (a, rest) = typed(alloc, Kind::Vector, line, tokens)?;
-    let (b, rest) = also(alloc, Kind::Same(a.ty), line, rest)?;
-    let ((ty, mask), rest) = mask(alloc, a.ty, line, rest)?;
-    let [] = rest else {
+    let (a, rest) = typed(alloc, Kind::Vector, at)?;
+    let (b, rest) = next_typed(alloc, Kind::Same(a.ty), rest)?;
+    let ((ty, mask), rest) = mask(alloc, a.ty, rest)?;
+    let [] = rest.tokens else {
         return Err(Stop::NotALine);
     };
-    Ok(gives_two(alloc, name, ty, Op::Shuffle { mask }, a, b))
-}
-
-/// The end of a `getelementptr`: into an array there may be another index.
-#[tactic(auto, unfolding(crate::specs::Forms::stepped))]
-fn stepped(
-    alloc: Global,
-    name: Bytes,
-    found: &[Token],
-    elem: Elem,
-    pointer: Arg,
-    index: Arg,
-    line: &[u8],
-    tokens: &[Token],
-) -> Result<Line, Stop>
-    ensures { Gives (λ x. x) result (read forms.line_of (forms.stepped name (words line.now found.now) elem pointer index) (words line.now tokens.now)) }
-{
-    let inbounds = has(line, found, b"inbounds");
-    match elem {
-        Elem::One(_) => {
-            let [] = tokens else {
-                return Err(Stop::NotALine);
-            };
-            Ok(gives_two(
-                alloc,
-                name,
-                Ty::Ptr,
-                Op::Gep { elem, inbounds },
-                pointer,
-                index,
-            ))
-        }
-        Elem::Array { n, w } => into_array(
-            alloc, name, inbounds, n, w, pointer, index, line, tokens,
-        ),
-    }
+    Ok(gives(alloc, name, ty, Op::Shuffle { mask }, Args::two(a, b)))
 }
 
 /// The end of a `getelementptr` into an array: another index, or none.
 fn into_array(
     alloc: Global,
     name: Bytes,
-    inbounds: bool,
-    n: u64,
-    w: u8,
+    op: Op,
     pointer: Arg,
     index: Arg,
-    line: &[u8],
-    tokens: &[Token],
+    at: Cursor,
 ) -> Result<Line, Stop>
-    ensures { Gives (λ x. x) result (forms.into_array name inbounds n w pointer index (words line.now tokens.now)) }
+    ensures { Gives (λ x. x) result (forms.into_array name op pointer index (left at.entry)) }
 {
-    let op = Op::Gep {
-        elem: Elem::Array { n, w },
-        inbounds,
-    };
-    match also(alloc, Kind::Integer, line, tokens) {
-        Ok((second, rest)) => {
-            let [] = rest else {
-                return Err(Stop::NotALine);
-            };
-            gives_three(alloc, name, Ty::Ptr, op, pointer, index, second)
-        }
+    match next_typed(alloc, Kind::Integer, at) {
         Err(Stop::NotALine) => {
-            let [] = tokens else {
-                return Err(Stop::NotALine);
-            };
-            Ok(gives_two(alloc, name, Ty::Ptr, op, pointer, index))
+            let args = Args::two(pointer, index);
+            finish(at, gives(alloc, name, Ty::Ptr, op, args))
         }
-        Err(Stop::OutOfMemory) => Err(Stop::OutOfMemory),
+        found => {
+            let (second, rest) = found?;
+            let args = three(alloc, pointer, index, second)?;
+            finish(rest, gives(alloc, name, Ty::Ptr, op, args))
+        }
     }
 }
 
-/// A pointer some way on.
-#[tactic(auto, unfolding(crate::specs::Forms::step))]
-fn step(alloc: Global, name: Bytes, line: &[u8], tokens: &[Token]) -> Result<Line, Stop>
-    ensures { Gives (λ x. x) result (read forms.line_of (forms.step name) (words line.now tokens.now)) }
+/// A pointer some way on: over an array there may be another index.
+#[tactic(auto, unfolding(crate::specs::Forms::step, crate::specs::Forms::stepped))]
+fn step(alloc: Global, name: Bytes, at: Cursor) -> Result<Line, Stop>
+    ensures { Gives (λ x. x) result (read forms.line_of (forms.step name) (left at.entry)) }
 {
-    let (found, rest) = flags(FlagSet::Address, line, tokens)?;
-    let (elem, rest) = elem(Kind::Byte, line, rest)?;
-    let (pointer, rest) = also(alloc, Kind::Pointer, line, rest)?;
-    let (index, rest) = also(alloc, Kind::Integer, line, rest)?;
-    stepped(alloc, name, found, elem, pointer, index, line, rest)
+    let (found, rest) = flags(FlagSet::Address, at)?;
+    let (elem, rest) = elem(Kind::Byte, rest)?;
+    let (pointer, rest) = next_typed(alloc, Kind::Pointer, rest)?;
+    let (index, rest) = next_typed(alloc, Kind::Integer, rest)?;
+    let inbounds = has(found, b"inbounds");
+    let op = Op::Gep { elem, inbounds };
+    match elem {
+        Elem::One(_) => {
+            let args = Args::two(pointer, index);
+            finish(rest, gives(alloc, name, Ty::Ptr, op, args))
+        }
+        Elem::Array { .. } => into_array(alloc, name, op, pointer, index, rest),
+    }
 }
 
 /// A load.
 #[tactic(auto, using(crate::proofs::LineEnds::goes_on), unfolding(crate::specs::Forms::load))]
-fn load(alloc: Global, name: Bytes, line: &[u8], tokens: &[Token]) -> Result<Line, Stop>
-    ensures { Gives (λ x. x) result (read forms.line_of (forms.load name) (words line.now tokens.now)) }
+fn load(alloc: Global, name: Bytes, at: Cursor) -> Result<Line, Stop>
+    ensures { Gives (λ x. x) result (read forms.line_of (forms.load name) (left at.entry)) }
 {
-    let (ty, rest) = kind(Kind::Stored, line, tokens)?;
-    let (pointer, rest) = also(alloc, Kind::Pointer, line, rest)?;
-    let (align, rest) = aligned(line, rest)?;
-    let [] = rest else {
+    let (ty, rest) = kind(Kind::Stored, at)?;
+    let (pointer, rest) = next_typed(alloc, Kind::Pointer, rest)?;
+    let (align, rest) = aligned(rest)?;
+    let [] = rest.tokens else {
         return Err(Stop::NotALine);
     };
     let op = Op::Load {
         align: align.unwrap_or(1),
     };
-    Ok(gives_one(alloc, name, ty, op, pointer))
+    Ok(gives(alloc, name, ty, op, Args::one(pointer)))
 }
 
 /// A new object.
 #[tactic(auto, unfolding(crate::specs::Forms::allocate))]
-fn allocate(alloc: Global, name: Bytes, line: &[u8], tokens: &[Token]) -> Result<Line, Stop>
-    ensures { Gives (λ x. x) result (read forms.line_of (forms.allocate name) (words line.now tokens.now)) }
+fn allocate(alloc: Global, name: Bytes, at: Cursor) -> Result<Line, Stop>
+    ensures { Gives (λ x. x) result (read forms.line_of (forms.allocate name) (left at.entry)) }
 {
-    let (elem, rest) = elem(Kind::Stored, line, tokens)?;
-    let (align, rest) = aligned(line, rest)?;
+    let (elem, rest) = elem(Kind::Stored, at)?;
+    let (align, rest) = aligned(rest)?;
     let stmt = Stmt {
         result: Some(name),
         ty: Ty::Ptr,
@@ -391,16 +304,16 @@ fn allocate(alloc: Global, name: Bytes, line: &[u8], tokens: &[Token]) -> Result
         args: Args::none(),
         labels: Names::new(alloc),
     };
-    finish(line, rest, Line::Stmt(stmt))
+    finish(rest, Line::Stmt(stmt))
 }
 
 /// A value by the block before.
 #[tactic(auto, unfolding(crate::specs::Forms::phi))]
-fn phi(alloc: Global, name: Bytes, line: &[u8], tokens: &[Token]) -> Result<Line, Stop>
-    ensures { Gives (λ x. x) result (read forms.line_of (forms.phi name) (words line.now tokens.now)) }
+fn phi(alloc: Global, name: Bytes, at: Cursor) -> Result<Line, Stop>
+    ensures { Gives (λ x. x) result (read forms.line_of (forms.phi name) (left at.entry)) }
 {
-    let (ty, rest) = kind(Kind::Value, line, tokens)?;
-    let (found, rest) = pairs(alloc, ty, line, rest)?;
+    let (ty, rest) = kind(Kind::Value, at)?;
+    let (found, rest) = pairs(alloc, ty, rest)?;
     let Incoming {
         args,
         labels,
@@ -413,54 +326,43 @@ fn phi(alloc: Global, name: Bytes, line: &[u8], tokens: &[Token]) -> Result<Line
         args: Args::from_list(args),
         labels,
     };
-    finish(line, rest, Line::Stmt(stmt))
+    finish(rest, Line::Stmt(stmt))
 }
 
-/// What stands behind the keyword of an operation with a result.
+/// What stands after the keyword of an operation with a result.
 #[tactic(auto, unfolding(crate::specs::Forms::by_code))]
-fn by_code(
-    alloc: Global,
-    name: Bytes,
-    code: Opcode,
-    line: &[u8],
-    tokens: &[Token],
-) -> Result<Line, Stop>
-    ensures { Gives (λ x. x) result (read forms.line_of (forms.by_code name code) (words line.now tokens.now)) }
+fn by_code(alloc: Global, name: Bytes, code: Opcode, at: Cursor) -> Result<Line, Stop>
+    ensures { Gives (λ x. x) result (read forms.line_of (forms.by_code name code) (left at.entry)) }
 {
     match code {
-        Opcode::Bin(op) => binary(alloc, name, op, line, tokens),
-        Opcode::Cast(op) => convert(alloc, name, op, line, tokens),
-        Opcode::Icmp => compare(alloc, name, line, tokens),
-        Opcode::Select => select(alloc, name, line, tokens),
-        Opcode::Extract => extract(alloc, name, line, tokens),
-        Opcode::Insert => insert(alloc, name, line, tokens),
-        Opcode::Shuffle => shuffle(alloc, name, line, tokens),
-        Opcode::Gep => step(alloc, name, line, tokens),
-        Opcode::Load => load(alloc, name, line, tokens),
-        Opcode::Alloca => allocate(alloc, name, line, tokens),
-        Opcode::Phi => phi(alloc, name, line, tokens),
+        Opcode::Bin(op) => binary(alloc, name, op, at),
+        Opcode::Cast(op) => convert(alloc, name, op, at),
+        Opcode::Icmp => compare(alloc, name, at),
+        Opcode::Select => select(alloc, name, at),
+        Opcode::Extract => extract(alloc, name, at),
+        Opcode::Insert => insert(alloc, name, at),
+        Opcode::Shuffle => shuffle(alloc, name, at),
+        Opcode::Gep => step(alloc, name, at),
+        Opcode::Load => load(alloc, name, at),
+        Opcode::Alloca => allocate(alloc, name, at),
+        Opcode::Phi => phi(alloc, name, at),
     }
 }
 
 /// The keyword of an operation with a result.
-fn code<'a>(line: &'a [u8], tokens: &'a [Token]) -> Result<(Opcode, &'a [Token]), Stop>
-    ensures { Gives (λ x. (x.0, words line.now x.1.now)) result (one values.opcode_of (words line.now tokens.now)) }
+fn code<'a>(at: Cursor<'a>) -> Result<(Opcode, Cursor<'a>), Stop>
+    ensures { Gives (λ x. (x.0, left x.1)) result (one values.opcode_of (left at.entry)) }
 {
-    let (word, rest) = next(line, tokens)?;
+    let (word, rest) = at.next()?;
     Ok((opcode_of(word)?, rest))
 }
 
-/// What stands behind the name of a result.
+/// What stands after the name of a result.
 #[tactic(auto, unfolding(crate::specs::Forms::value_line))]
-pub(crate) fn value_line(
-    alloc: Global,
-    name: Bytes,
-    line: &[u8],
-    tokens: &[Token],
-) -> Result<Line, Stop>
-    ensures { Gives (λ x. x) result (read forms.line_of (forms.value_line name) (words line.now tokens.now)) }
+pub(crate) fn value_line(alloc: Global, name: Bytes, at: Cursor) -> Result<Line, Stop>
+    ensures { Gives (λ x. x) result (read forms.line_of (forms.value_line name) (left at.entry)) }
 {
-    let rest = expect(line, tokens, b"=")?;
-    let (code, rest) = code(line, rest)?;
-    by_code(alloc, name, code, line, rest)
+    let rest = at.expect(b"=")?;
+    let (code, rest) = code(rest)?;
+    by_code(alloc, name, code, rest)
 }

@@ -1,4 +1,4 @@
--- Lists in pieces: one item replaced, one put behind others, two lists one after another.
+-- Lists in pieces: one item replaced, one put after others, two lists one after another.
 use Rattle.std.proofs.Common.{◌≡◌, refl, sym, ap, ◌∙◌, ℕ, zero, suc, ◌+◌, ◌-◌, ◌<◌, None, List, [], ◌∷◌, ◌++◌, length, take, drop, slice_get, slice_set, get_or, arith, append_assoc, length-drop, drop-cons, add-one}
 use Rattle.std.proofs.lemmas.List.{take_all}
 use Rattle.ir_model.specs.Values.{Lane}

@@ -1,4 +1,4 @@
--- A step that gives a result sets the value of its id; a block goes on behind each step, and a run behind each block.
+-- A step that gives a result sets the value of its id; a block goes on after each step, and a run after each block.
 use Rattle.std.proofs.Common.{◌≡◌, sym, ap, ◌∙◌, ℕ, suc, ◌+◌, ◌-◌, ◌<◌, Bool, true, false, cond, Option, Some, List, ◌∷◌, map, drop, slice_get, arith}
 use Rattle.ir_types.specs.declared.id.Id.{Id}
 use Rattle.ir_types.specs.declared.ty.Ty.{Ty}

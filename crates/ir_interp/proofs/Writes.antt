@@ -6,7 +6,7 @@ use Rattle.ir_model.specs.Accesses.{memory_effect}
 use Rattle.ir_model.proofs.Lists.{put_further}
 use Rattle.ir_interp.specs.Effects.{stored_if}
 
--- the first byte set, and the others put behind it
+-- the first byte set, and the others put after it
 put-first : {A : Type 0} (x : A) (xs : List A) (at : ℕ) (zs : List A) → at < length zs → put (x ∷ xs) at zs ≡ put xs (at + 1) (slice_set zs at x)
 put-first x xs at [] h = absurd (omega arith)
 put-first x xs zero (z ∷ zs) h = sym (put_further xs (zero + 1) zero x zs (omega arith))

@@ -28,7 +28,7 @@ abbrev pub arrived : List Arrival → Env → Env
 arrived [] env = env
 arrived (a ∷ others) env = arrived others (with_value env a.id a.value)
 
--- what the phis at the head of a block bring on an edge, if all bring something: to enter the block is to run what is behind them
+-- what the phis at the head of a block bring on an edge, if all bring something: to enter the block is to run what is after them
 -- in the environment in which they have it
 abbrev pub IsEntry : Option ℕ → Env → List Inst → Option (List Arrival) → Type 0
 IsEntry from edge insts None = (types : Id → Ty) (s : State) → Stops ≡ enter types from edge insts s

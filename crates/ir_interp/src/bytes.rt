@@ -17,7 +17,7 @@ use vx_num::Lane;
 /// A byte of a memory.
 pub(crate) type Byte = Option<u8>;
 
-/// Puts the bytes of a lane behind others.
+/// Puts the bytes of a lane after others.
 fn push_lane(bytes: &mut Object, size: usize, lane: Lane) -> Result<(), OutOfMemory>
     ensures { OnOk result (bytes.new ≡ bytes.old ++ lane_bytes size lane) }
 {
@@ -128,13 +128,13 @@ pub(crate) fn lanes_from(
     let mut rest = bytes;
     for _ in 0..count {
         lanes.push(lane_from(size, rest))?;
-        rest = behind(rest, size);
+        rest = after(rest, size);
     }
     Ok(lanes)
 }
 
-/// The bytes behind the first so many.
-fn behind(bytes: &[Byte], size: usize) -> &[Byte]
+/// The bytes after the first so many.
+fn after(bytes: &[Byte], size: usize) -> &[Byte]
     ensures { result.now ≡ drop size bytes.now }
 {
     if size <= bytes.len() {

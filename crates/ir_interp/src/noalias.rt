@@ -33,14 +33,12 @@ fn any_names(object: u32, values: &[Value]) -> bool
 }
 
 /// Whether an argument names no object that a global or another argument names; poison names none.
-fn is_unshared(globals: usize, value: &Value, before: &[Value], behind: &[Value]) -> bool
-    ensures { result ≡ is_unshared globals value.now (before.now ++ behind.now) }
+fn is_unshared(globals: usize, value: &Value, before: &[Value], after: &[Value]) -> bool
+    ensures { result ≡ is_unshared globals value.now (before.now ++ after.now) }
 {
     match value {
         Value::Ptr(Some((object, _))) => {
-            globals <= *object as usize
-                && !any_names(*object, before)
-                && !any_names(*object, behind)
+            globals <= *object as usize && !any_names(*object, before) && !any_names(*object, after)
         }
         _ => true,
     }

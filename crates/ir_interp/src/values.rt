@@ -4,7 +4,6 @@
 
 ghost use Rattle.std.specs.Prelude.{◌≡◌, ◌≤◌, IfOk, map, option_map};
 ghost use Rattle.ir_model.specs.declared.value.Value.TheVariants.{Row as RowValue};
-ghost use Rattle.ir_types.specs.Typed.{lane_width};
 ghost use Rattle.ir_model.specs.Operations.{bin_value, cmp_value, cast_value, select_value, cast_lane, chosen_lanes, paired, single};
 ghost use Rattle.ir_interp.specs.Pairing.{IsNarrow, lanewise};
 
@@ -16,17 +15,6 @@ use std::alloc::Global;
 use vx_list::OutOfMemory;
 use vx_num::{BinOp, CastOp, Flags, Lane, Pred};
 
-/// The width of a lane of a type.
-pub(crate) fn lane_width(ty: Ty) -> u8
-    ensures { result ≡ lane_width ty }
-{
-    match ty {
-        Ty::Int(w) => w,
-        Ty::Row { w, .. } => w,
-        _ => 0,
-    }
-}
-
 /// A binary operation (Language Reference, "Binary Operations" and "Bitwise Binary Operations").
 pub(crate) fn bin_value(
     alloc: Global,
@@ -37,7 +25,7 @@ pub(crate) fn bin_value(
 ) -> Result<Option<Value>, OutOfMemory>
     ensures { IfOk result (λ value. value ≡ bin_value op flags ty values.now) }
 {
-    let w = lane_width(ty);
+    let w = ty.lane_width();
     if w <= 64 {
         paired(alloc, Pairing::Bin { op, flags, w }, ty, values)
     } else {
@@ -55,7 +43,7 @@ pub(crate) fn cmp_value(
 ) -> Result<Option<Value>, OutOfMemory>
     ensures { IfOk result (λ value. value ≡ cmp_value pred ty compared values.now) }
 {
-    let w = lane_width(compared);
+    let w = compared.lane_width();
     if w <= 64 {
         paired(alloc, Pairing::Cmp { pred, w }, ty, values)
     } else {
@@ -98,8 +86,8 @@ pub(crate) fn cast_value(
 ) -> Result<Option<Value>, OutOfMemory>
     ensures { IfOk result (λ value. value ≡ cast_value op nneg ty from values.now) }
 {
-    let source = lane_width(from);
-    let target = lane_width(ty);
+    let source = from.lane_width();
+    let target = ty.lane_width();
     if source > 64 || target > 64 {
         return Ok(None);
     }

@@ -84,7 +84,7 @@ fn replaced(alloc: Global, lanes: &[Lane], at: usize, lane: Lane) -> Result<Lits
     Ok(done)
 }
 
-/// Puts lanes behind others.
+/// Puts lanes after others.
 fn push_all(lanes: &mut Lits, more: &[Lane]) -> Result<(), OutOfMemory>
     ensures { OnOk result (lanes.new ≡ lanes.old ++ more.now) }
 {

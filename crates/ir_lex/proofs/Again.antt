@@ -1,4 +1,4 @@
--- What bytes are cut into when others stand behind them: the laws by which what is printed is read again.
+-- What bytes are cut into when others stand after them: the laws by which what is printed is read again.
 use Rattle.std.proofs.Common.{◌≡◌, ℕ, suc, zero, ◌+◌, ◌≤◌, ◌==◌, inl, inr, Bool, true, false, cond, not, ◌&&◌, ◌||◌, List, [], ◌∷◌, ◌++◌, length, take, drop, Some, None, refl, sym, ◌∙◌, ap, subst, arith, eqb-true, ◌≢◌, length-append}
 use Rattle.std.proofs.Math.Seq.{take-length}
 use Rattle.std.proofs.lemmas.List.Folds.{list_any-append}
@@ -6,7 +6,7 @@ use Rattle.ir_lex.proofs.Runs.{take_nothing}
 use Rattle.std.proofs.lemmas.List.{take-append-le, take-append-drop}
 use Rattle.std.specs.List.{list_all, prefix_len}
 use Rattle.ir_lex.specs.Bytes.{quote, semicolon, begins_name, is_word_byte, is_digit, is_sigil, is_mark, is_blank, is_control}
-use Rattle.ir_lex.specs.Faults.{enter, behind, opens, has_quote, begins_fault}
+use Rattle.ir_lex.specs.Faults.{enter, after, opens, has_quote, begins_fault}
 use Rattle.ir_lex.specs.Tokens.{IsToken, Name, QuotedName, Unnamed, Text, Mark, Run, Single, Longest, is_string, ends_string, is_empty, is_name, is_number}
 use Rattle.ir_lex.specs.Scan.{one_more, string_len, name_len, more_len, texts_from, texts, fault_from}
 use Rattle.ir_lex.specs.declared.faults.Part.{Part}
@@ -14,15 +14,15 @@ use Rattle.ir_lex.specs.declared.faults.Part.TheVariants.{Plain, Quoted, Comment
 use Rattle.ir_lex.proofs.Classes.{both, either, clash, by_quote, digit_word, name_word, no_word_no_name, mark_no_quote, percent_sigil, sigil_no_quote}
 use Rattle.ir_lex.proofs.Longer.{longest_more, longest_once, string_of_quote}
 
--- the part of the line behind two pieces
-pub behind_append : (part : Part) (bs cs : List ℕ) → behind part (bs ++ cs) ≡ behind (behind part bs) cs
-behind_append part [] cs = refl
-behind_append part (b ∷ bs) cs = behind_append (enter part b) bs cs
+-- the part of the line after two pieces
+pub after_append : (part : Part) (bs cs : List ℕ) → after part (bs ++ cs) ≡ after (after part bs) cs
+after_append part [] cs = refl
+after_append part (b ∷ bs) cs = after_append (enter part b) bs cs
 
 -- a comment does not end in its line
-pub behind_comment : (bs : List ℕ) → behind Comment bs ≡ Comment
-behind_comment [] = refl
-behind_comment (b ∷ bs) = behind_comment bs
+pub after_comment : (bs : List ℕ) → after Comment bs ≡ Comment
+after_comment [] = refl
+after_comment (b ∷ bs) = after_comment bs
 
 -- a byte of a run opens nothing
 word_plain : (b : ℕ) → is_word_byte b ≡ true → enter Plain b ≡ Plain
@@ -36,29 +36,29 @@ word_plain b w =
       ] refl
     ] refl
 
-words_plain : (bs : List ℕ) → list_all is_word_byte bs ≡ true → behind Plain bs ≡ Plain
+words_plain : (bs : List ℕ) → list_all is_word_byte bs ≡ true → after Plain bs ≡ Plain
 words_plain [] h = refl
 words_plain (b ∷ bs) h = rw (word_plain b (both _ _ h).0) (words_plain bs (both _ _ h).1)
 
-digits_plain : (bs : List ℕ) → list_all is_digit bs ≡ true → behind Plain bs ≡ Plain
+digits_plain : (bs : List ℕ) → list_all is_digit bs ≡ true → after Plain bs ≡ Plain
 digits_plain [] h = refl
 digits_plain (b ∷ bs) h = rw (word_plain b (digit_word b (both _ _ h).0)) (digits_plain bs (both _ _ h).1)
 
--- behind its closing quote a string is over
-string_plain : (bs : List ℕ) → ends_string bs ≡ true → behind Quoted bs ≡ Plain
+-- after its closing quote a string is over
+string_plain : (bs : List ℕ) → ends_string bs ≡ true → after Quoted bs ≡ Plain
 string_plain [] h = cc
 string_plain (b ∷ bs) h = here (b == quote) bs h (string_plain bs) where
-  here : (t : Bool) (bs : List ℕ) → cond t (is_empty bs) (ends_string bs) ≡ true → (ends_string bs ≡ true → behind Quoted bs ≡ Plain) → behind (cond t Plain Quoted) bs ≡ Plain
+  here : (t : Bool) (bs : List ℕ) → cond t (is_empty bs) (ends_string bs) ≡ true → (ends_string bs ≡ true → after Quoted bs ≡ Plain) → after (cond t Plain Quoted) bs ≡ Plain
   here true [] h next = refl
   here true (b ∷ bs) h next = cc
   here false bs h next = next h
 
 -- a string that does not close goes on
-string_open_on : (bs : List ℕ) → string_len bs ≡ 0 → behind Quoted bs ≡ Quoted
+string_open_on : (bs : List ℕ) → string_len bs ≡ 0 → after Quoted bs ≡ Quoted
 unfolding string_len
 string_open_on [] h = refl
 string_open_on (b ∷ bs) h = here (b == quote) (string_len bs) h (string_open_on bs) where
-  here : (t : Bool) (n : ℕ) → cond t 1 (one_more n) ≡ 0 → (n ≡ 0 → behind Quoted bs ≡ Quoted) → behind (cond t Plain Quoted) bs ≡ Quoted
+  here : (t : Bool) (n : ℕ) → cond t 1 (one_more n) ≡ 0 → (n ≡ 0 → after Quoted bs ≡ Quoted) → after (cond t Plain Quoted) bs ≡ Quoted
   here true n h next = absurd (omega arith)
   here false zero h next = next refl
   here false (suc n) h next = absurd (omega arith)
@@ -81,7 +81,7 @@ run_stops : (p : ℕ → Bool) (bs rest : List ℕ) → prefix_len p rest ≡ 0 
 run_stops p [] rest h = h
 run_stops p (b ∷ bs) rest h = rw (run_stops p bs rest h) refl
 
--- no word goes on with the bytes behind it
+-- no word goes on with the bytes after it
 word_stops : (rest : List ℕ) → stops rest ≡ true → prefix_len is_word_byte rest ≡ 0
 word_stops [] h = refl
 word_stops (x ∷ rest) h = let w : is_word_byte x ≡ false = no_from _ (both _ _ h).0 in rw w refl
@@ -149,9 +149,9 @@ longest_alone b bs rest n l token = record {
 }
 
 -- where all strings are closed and no comment has begun, a string at the first byte closes
-pub closes_plain : (bs : List ℕ) → behind Plain bs ≡ Plain → Closes bs
+pub closes_plain : (bs : List ℕ) → after Plain bs ≡ Plain → Closes bs
 closes_plain [] h = tt
-closes_plain (b ∷ bs) h = λ q z. let open_on : behind Quoted bs ≡ Quoted = string_open_on bs z in let e : behind (enter Plain b) bs ≡ Plain = h in quoted_not (rw (q, open_on) at e) where
+closes_plain (b ∷ bs) h = λ q z. let open_on : after Quoted bs ≡ Quoted = string_open_on bs z in let e : after (enter Plain b) bs ≡ Plain = h in quoted_not (rw (q, open_on) at e) where
   quoted_not : {P : Type 0} → Quoted ≡ Plain → P
   quoted_not e = cc
 
@@ -159,20 +159,20 @@ closes_plain (b ∷ bs) h = λ q z. let open_on : behind Quoted bs ≡ Quoted = 
 pub plain_byte : (b : ℕ) → (b == quote) ≡ false → (b == semicolon) ≡ false → enter Plain b ≡ Plain
 plain_byte b q s = rw (q, s) refl
 
-name_bytes : (bs : List ℕ) → is_name bs ≡ true → behind Plain bs ≡ Plain
+name_bytes : (bs : List ℕ) → is_name bs ≡ true → after Plain bs ≡ Plain
 name_bytes [] h = cc
 name_bytes (b ∷ bs) h = words_plain (b ∷ bs) (rw (name_word b (both _ _ h).0) (both _ _ h).1)
 
-number_bytes : (bs : List ℕ) → is_number bs ≡ true → behind Plain bs ≡ Plain
+number_bytes : (bs : List ℕ) → is_number bs ≡ true → after Plain bs ≡ Plain
 number_bytes [] h = cc
 number_bytes (b ∷ bs) h = digits_plain (b ∷ bs) h
 
-string_bytes : (bs : List ℕ) → is_string bs ≡ true → behind Plain bs ≡ Plain
+string_bytes : (bs : List ℕ) → is_string bs ≡ true → after Plain bs ≡ Plain
 string_bytes [] h = cc
 string_bytes (b ∷ bs) h = let q : (b == quote) ≡ true = (both _ _ h).0 in rw q (string_plain bs (both _ _ h).1)
 
--- behind a token no string is open
-pub token_plain : (b : ℕ) (bs : List ℕ) → (b == semicolon) ≡ false → (bs ≡ [] → (b == quote) ≡ false) → IsToken b bs → behind Plain (b ∷ bs) ≡ Plain
+-- after a token no string is open
+pub token_plain : (b : ℕ) (bs : List ℕ) → (b == semicolon) ≡ false → (bs ≡ [] → (b == quote) ≡ false) → IsToken b bs → after Plain (b ∷ bs) ≡ Plain
 token_plain b bs s one (Name t h) = rw (plain_byte b (sigil_no_quote b t) s) (name_bytes bs h)
 token_plain b bs s one (QuotedName t h) = rw (plain_byte b (sigil_no_quote b t) s) (string_bytes bs h)
 token_plain b bs s one (Unnamed e h) = rw (plain_byte b (sigil_no_quote b (percent_sigil b e)) s) (number_bytes bs h)
@@ -181,7 +181,7 @@ token_plain b bs s one (Mark t h) = rw (plain_byte b (mark_no_quote b t) s) (wor
 token_plain b bs s one (Run h) = words_plain (b ∷ bs) h
 token_plain b bs s one (Single e) = rw (e, plain_byte b (one e) s) refl
 
--- in front of a byte that opens nothing stands what stands behind it
+-- in front of a byte that opens nothing stands what stands after it
 not_quoted : {P : Type 0} → Quoted ≡ Plain → P
 not_quoted e = cc
 
@@ -196,13 +196,13 @@ blank_plain b h =
       | inr e ↦ subst (λ x. enter Plain x ≡ Plain) (sym (eqb-true b 9 e)) refl
     ]
 
--- behind the token at the first byte no string is open, where none is open at the end
-rest_plain : (b : ℕ) (bs : List ℕ) → (b == semicolon) ≡ false → behind Plain (b ∷ bs) ≡ Plain → behind Plain (drop (more_len b bs) bs) ≡ Plain
+-- after the token at the first byte no string is open, where none is open at the end
+rest_plain : (b : ℕ) (bs : List ℕ) → (b == semicolon) ≡ false → after Plain (b ∷ bs) ≡ Plain → after Plain (drop (more_len b bs) bs) ≡ Plain
 rest_plain b bs s h =
-    let token : behind Plain (b ∷ take (more_len b bs) bs) ≡ Plain = token_plain b (take (more_len b bs) bs) s one (longest_more b bs).stands in
-    let apart : behind Plain (b ∷ bs) ≡ behind (behind Plain (b ∷ take (more_len b bs) bs)) (drop (more_len b bs) bs) =
-    ap (behind (enter Plain b)) (sym (take-append-drop (more_len b bs) bs)) ∙ behind_append (enter Plain b) (take (more_len b bs) bs) (drop (more_len b bs) bs) in
-    subst (λ (p : Part). behind p (drop (more_len b bs) bs) ≡ Plain) token (sym apart ∙ h) where
+    let token : after Plain (b ∷ take (more_len b bs) bs) ≡ Plain = token_plain b (take (more_len b bs) bs) s one (longest_more b bs).stands in
+    let apart : after Plain (b ∷ bs) ≡ after (after Plain (b ∷ take (more_len b bs) bs)) (drop (more_len b bs) bs) =
+    ap (after (enter Plain b)) (sym (take-append-drop (more_len b bs) bs)) ∙ after_append (enter Plain b) (take (more_len b bs) bs) (drop (more_len b bs) bs) in
+    subst (λ (p : Part). after p (drop (more_len b bs) bs) ≡ Plain) token (sym apart ∙ h) where
       nothing : (t : Bool) → (b == quote) ≡ t → take (more_len b bs) bs ≡ [] → t ≡ false
       nothing false q e = refl
       nothing true q e =
@@ -214,12 +214,12 @@ rest_plain b bs s h =
 
 -- the bytes of the tokens of two pieces are those of the one and of the other, where the first leaves no string open and has
 -- no comment, and the second does not go on with a word
-texts_append_from : (left : ℕ) (bs rest : List ℕ) → left ≤ length bs → behind Plain (drop left bs) ≡ Plain → stops rest ≡ true → texts_from left (bs ++ rest) ≡ texts_from left bs ++ texts_from 0 rest
+texts_append_from : (left : ℕ) (bs rest : List ℕ) → left ≤ length bs → after Plain (drop left bs) ≡ Plain → stops rest ≡ true → texts_from left (bs ++ rest) ≡ texts_from left bs ++ texts_from 0 rest
 texts_append_from zero [] rest l h stop = refl
 texts_append_from (suc left) [] rest l h stop = absurd (omega arith)
 texts_append_from (suc left) (b ∷ bs) rest l h stop = texts_append_from left bs rest (omega arith) h stop
 texts_append_from zero (b ∷ bs) rest l h stop =
-    here (is_blank b) (b == semicolon) refl refl (λ e. texts_append_from 0 bs rest (omega arith) (subst (λ (p : Part). behind p bs ≡ Plain) (blank_plain b e) h) stop)
+    here (is_blank b) (b == semicolon) refl refl (λ e. texts_append_from 0 bs rest (omega arith) (subst (λ (p : Part). after p bs ≡ Plain) (blank_plain b e) h) stop)
     (λ s. texts_append_from (more_len b bs) bs rest (longest_more b bs).within (rest_plain b bs s h) stop) where
       token : (n : ℕ) → n ≡ more_len b bs → n ≤ length bs → texts_from n (bs ++ rest) ≡ texts_from n bs ++ texts_from 0 rest →
           (b ∷ take n (bs ++ rest)) ∷ texts_from n (bs ++ rest) ≡ (b ∷ take (more_len b bs) bs) ∷ texts_from (more_len b bs) bs ++ texts_from 0 rest
@@ -230,18 +230,18 @@ texts_append_from zero (b ∷ bs) rest l h stop =
           cond blank (texts_from 0 (bs ++ rest)) (cond comment [] ((b ∷ take (more_len b (bs ++ rest)) (bs ++ rest)) ∷ texts_from (more_len b (bs ++ rest)) (bs ++ rest)))
           ≡ cond blank (texts_from 0 bs) (cond comment [] ((b ∷ take (more_len b bs) bs) ∷ texts_from (more_len b bs) bs)) ++ texts_from 0 rest
       here true comment e c skip next = skip e
-      here false true e c skip next = not_comment (sym (behind_comment bs) ∙ subst (λ (x : ℕ). behind (enter Plain x) bs ≡ Plain) (eqb-true b semicolon c) h)
+      here false true e c skip next = not_comment (sym (after_comment bs) ∙ subst (λ (x : ℕ). after (enter Plain x) bs ≡ Plain) (eqb-true b semicolon c) h)
       here false false e c skip next =
           let same : more_len b (bs ++ rest) ≡ more_len b bs =
-          more_stops b bs rest stop (closes_plain (b ∷ bs) h) (λ s. closes_plain bs (subst (λ (p : Part). behind p bs ≡ Plain) (plain_byte b (sigil_no_quote b s) c) h)) in
+          more_stops b bs rest stop (closes_plain (b ∷ bs) h) (λ s. closes_plain bs (subst (λ (p : Part). after p bs ≡ Plain) (plain_byte b (sigil_no_quote b s) c) h)) in
           subst (λ (n : ℕ). (b ∷ take n (bs ++ rest)) ∷ texts_from n (bs ++ rest) ≡ (b ∷ take (more_len b bs) bs) ∷ texts_from (more_len b bs) bs ++ texts_from 0 rest)
           (sym same) (token (more_len b bs) refl (longest_more b bs).within (next c))
 
-pub texts_append : (bs rest : List ℕ) → behind Plain bs ≡ Plain → stops rest ≡ true → texts (bs ++ rest) ≡ texts bs ++ texts rest
+pub texts_append : (bs rest : List ℕ) → after Plain bs ≡ Plain → stops rest ≡ true → texts (bs ++ rest) ≡ texts bs ++ texts rest
 unfolding texts
 texts_append bs rest h stop = texts_append_from 0 bs rest (omega arith) h stop
 
--- nothing is left of a token behind its bytes
+-- nothing is left of a token after its bytes
 texts_past : (bs : List ℕ) → texts_from (length bs) bs ≡ []
 texts_past [] = refl
 texts_past (b ∷ bs) = texts_past bs
@@ -268,7 +268,7 @@ fault_shift part at to (b ∷ bs) h = here (begins_fault part (b ∷ bs)) h (fau
   here true h next = cc
   here false h next = next h
 
--- more bytes behind make no fault of what was none
+-- more bytes after make no fault of what was none
 begins_more : (part : Part) (b : ℕ) (bs rest : List ℕ) → begins_fault part (b ∷ bs) ≡ false → begins_fault part (b ∷ bs ++ rest) ≡ false
 begins_more part b bs rest h = rw (list_any-append (λ x. x == quote) bs rest) (here (is_control b) (opens part b) (has_quote bs) (has_quote rest) h) where
   here : (c o q r : Bool) → (c || (o && not q)) ≡ false → (c || (o && not (q || r))) ≡ false
@@ -278,10 +278,10 @@ begins_more part b bs rest h = rw (list_any-append (λ x. x == quote) bs rest) (
   here false true false r h = cc
 
 -- two pieces without a fault have none together
-pub fault_append : (part : Part) (at : ℕ) (bs rest : List ℕ) → fault_from part at bs ≡ None → fault_from (behind part bs) at rest ≡ None → fault_from part at (bs ++ rest) ≡ None
+pub fault_append : (part : Part) (at : ℕ) (bs rest : List ℕ) → fault_from part at bs ≡ None → fault_from (after part bs) at rest ≡ None → fault_from part at (bs ++ rest) ≡ None
 fault_append part at [] rest h k = k
 fault_append part at (b ∷ bs) rest h k =
-    here (begins_fault part (b ∷ bs)) refl h (λ f. fault_append (enter part b) (at + 1) bs rest f (fault_shift (behind (enter part b) bs) at (at + 1) rest k)) where
+    here (begins_fault part (b ∷ bs)) refl h (λ f. fault_append (enter part b) (at + 1) bs rest f (fault_shift (after (enter part b) bs) at (at + 1) rest k)) where
       here : (t : Bool) → begins_fault part (b ∷ bs) ≡ t → cond t (Some at) (fault_from (enter part b) (at + 1) bs) ≡ None →
           (fault_from (enter part b) (at + 1) bs ≡ None → fault_from (enter part b) (at + 1) (bs ++ rest) ≡ None) → fault_from part at (b ∷ bs ++ rest) ≡ None
       here true e h next = cc

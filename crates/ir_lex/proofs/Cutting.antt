@@ -14,14 +14,14 @@ cut_skip (suc n) at (b ∷ bs) l = let e : at + suc n ≡ at + 1 + n = omega ari
 eqb_no : (a b : ℕ) → a ≢ b → (a == b) ≡ false
 eqb_no a b h = elim (eqb_tells a b) [ inl e ↦ absurd (h e.1) | inr e ↦ e.0 ]
 
--- a token and what the walk cuts behind it
-pub cut_next : (ts whole new : List Token) (at size n : ℕ) (rest behind after : List ℕ) → 1 ≤ length rest → behind ≡ drop 1 rest →
-    is_blank (get_or rest 0 0) ≡ false → get_or rest 0 0 ≢ 59 → n ≡ more_len (get_or rest 0 0) behind → n ≤ length behind → after ≡ drop n behind →
+-- a token and what the walk cuts after it
+pub cut_next : (ts whole new : List Token) (at size n : ℕ) (rest past after : List ℕ) → 1 ≤ length rest → past ≡ drop 1 rest →
+    is_blank (get_or rest 0 0) ≡ false → get_or rest 0 0 ≢ 59 → n ≡ more_len (get_or rest 0 0) past → n ≤ length past → after ≡ drop n past →
     new ≡ ts ++ record { from = at; to = at + 1 + n } ∷ [] → (at + length rest ≡ size) × (ts ++ cut_from 0 at rest ≡ whole) →
     (at + 1 + n + length after ≡ size) × (new ++ cut_from 0 (at + 1 + n) after ≡ whole)
-cut_next ts whole new at size n [] behind after l d blank comment more short e p h = absurd (omega arith)
-cut_next ts whole new at size n (b ∷ bs) behind after l d blank comment more short e p h =
-    let same : behind ≡ bs = d in
+cut_next ts whole new at size n [] past after l d blank comment more short e p h = absurd (omega arith)
+cut_next ts whole new at size n (b ∷ bs) past after l d blank comment more short e p h =
+    let same : past ≡ bs = d in
     let short_bs : n ≤ length bs = subst (λ (x : List ℕ). n ≤ length x) same short in
     let more_bs : n ≡ more_len b bs = subst (λ (x : List ℕ). n ≡ more_len b x) same more in
     let after_is : after ≡ drop n bs = subst (λ (x : List ℕ). after ≡ drop n x) same e in

@@ -2,7 +2,7 @@
 use Rattle.std.proofs.Common.{◌≡◌, true, false, [], ◌∷◌, Some, refl}
 use Rattle.std.specs.Prelude.{codes}
 use Rattle.ir_lex.specs.Bytes.{begins_name, is_word_byte, is_digit, is_sigil, is_mark, is_blank, is_control}
-use Rattle.ir_lex.specs.Faults.{behind, is_fault}
+use Rattle.ir_lex.specs.Faults.{after, is_fault}
 use Rattle.ir_lex.specs.Tokens.{IsToken, Name, QuotedName, Unnamed, Text, Mark, Run, Single, AreTokens}
 use Rattle.ir_lex.specs.Words.{word}
 use Rattle.ir_lex.specs.Scan.{string_len, name_len, more_len, cut, texts, fault_from}
@@ -55,7 +55,7 @@ a_word : word (codes "add i32") (record { from = 4; to = 7 }) ≡ codes "i32"
 unfolding word
 a_word = refl
 
--- the tokens of a line by their bytes; the longest is taken, digits behind a name's first byte are of it, and a comment is left out
+-- the tokens of a line by their bytes; the longest is taken, digits after a name's first byte are of it, and a comment is left out
 line_texts : texts (codes "%x = add i32 %12ab, -7 ; \"") ≡ codes "%x" ∷ codes "=" ∷ codes "add" ∷ codes "i32" ∷ codes "%12" ∷ codes "ab" ∷ codes "," ∷ codes "-7" ∷ []
 unfolding texts more_len name_len string_len is_blank is_sigil is_mark is_word_byte begins_name is_digit
 line_texts = refl
@@ -82,9 +82,9 @@ first_fault : fault_from Plain 0 (104 ∷ 105 ∷ 1 ∷ []) ≡ Some 2
 unfolding is_control
 first_fault = refl
 
--- which part of a line stands behind its beginning
-in_string : behind Plain (codes "a \"b;") ≡ Quoted
+-- which part of a line stands after its beginning
+in_string : after Plain (codes "a \"b;") ≡ Quoted
 in_string = refl
 
-in_comment : behind Plain (codes "\"b\" ;\"") ≡ Comment
+in_comment : after Plain (codes "\"b\" ;\"") ≡ Comment
 in_comment = refl

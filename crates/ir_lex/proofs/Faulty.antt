@@ -2,7 +2,7 @@
 use Rattle.std.proofs.Common.{◌≡◌, ℕ, suc, zero, ◌+◌, ◌<◌, ◌≤◌, ◌==◌, ◌||◌, not, Bool, true, false, cond, List, [], ◌∷◌, length, get_or, take, drop, Option, Some, None, inl, inr, refl, subst, arith}
 use Rattle.std.proofs.lemmas.Bool.Decides.{eqb_tells, leb_tells}
 use Rattle.ir_lex.proofs.Classes.{clash}
-use Rattle.ir_lex.specs.Faults.{enter, behind, begins_fault, FirstFault}
+use Rattle.ir_lex.specs.Faults.{enter, after, begins_fault, FirstFault}
 use Rattle.ir_lex.specs.Scan.{fault_from}
 use Rattle.ir_lex.specs.declared.faults.Part.{Part}
 use Rattle.std.specs.List.{position_or_len}
@@ -10,13 +10,13 @@ use Rattle.ir_lex.specs.Bytes.{quote, semicolon, is_control, is_notable}
 use Rattle.ir_lex.specs.declared.faults.Part.TheVariants.{Plain, Quoted, Comment}
 
 -- nothing is found in a line without fault alone
-pub fault_absent : (part : Part) (at : ℕ) (line : List ℕ) → fault_from part at line ≡ None → (k : ℕ) → begins_fault (behind part (take k line)) (drop k line) ≡ false
+pub fault_absent : (part : Part) (at : ℕ) (line : List ℕ) → fault_from part at line ≡ None → (k : ℕ) → begins_fault (after part (take k line)) (drop k line) ≡ false
 fault_absent part at [] h zero = refl
 fault_absent part at [] h (suc k) = refl
 fault_absent part at (b ∷ bs) h k = here (begins_fault part (b ∷ bs)) refl h k (λ h k. fault_absent (enter part b) (at + 1) bs h k) where
   here : (t : Bool) → begins_fault part (b ∷ bs) ≡ t → cond t (Some at) (fault_from (enter part b) (at + 1) bs) ≡ None → (k : ℕ) →
-      (fault_from (enter part b) (at + 1) bs ≡ None → (k : ℕ) → begins_fault (behind (enter part b) (take k bs)) (drop k bs) ≡ false) →
-      begins_fault (behind part (take k (b ∷ bs))) (drop k (b ∷ bs)) ≡ false
+      (fault_from (enter part b) (at + 1) bs ≡ None → (k : ℕ) → begins_fault (after (enter part b) (take k bs)) (drop k bs) ≡ false) →
+      begins_fault (after part (take k (b ∷ bs))) (drop k (b ∷ bs)) ≡ false
   here true e h k next = cc
   here false e h zero next = e
   here false e h (suc k) next = next h k
@@ -24,8 +24,8 @@ fault_absent part at (b ∷ bs) h k = here (begins_fault part (b ∷ bs)) refl h
 -- the place `j` in the line is the first fault
 pub record FoundAt (part : Part) (line : List ℕ) (j : ℕ) : Type 0 where
   pub within : j < length line
-  pub fault : begins_fault (behind part (take j line)) (drop j line) ≡ true
-  pub first : (i : ℕ) → i < j → begins_fault (behind part (take i line)) (drop i line) ≡ false
+  pub fault : begins_fault (after part (take j line)) (drop j line) ≡ true
+  pub first : (i : ℕ) → i < j → begins_fault (after part (take i line)) (drop i line) ≡ false
 
 -- what is found is the first fault
 pub fault_there : (part : Part) (at : ℕ) (line : List ℕ) (k : ℕ) → fault_from part at line ≡ Some k → (j : ℕ) × (k ≡ at + j) × FoundAt part line j
@@ -38,7 +38,7 @@ fault_there part at (b ∷ bs) k h = here (begins_fault part (b ∷ bs)) refl h 
       let same : at ≡ k = cc in
       (0, omega arith, record { within = omega arith; fault = e; first = λ i l. absurd (omega arith) })
   here false e h next = later (next h) where
-    earlier : (j : ℕ) → FoundAt (enter part b) bs j → (i : ℕ) → i < suc j → begins_fault (behind part (take i (b ∷ bs))) (drop i (b ∷ bs)) ≡ false
+    earlier : (j : ℕ) → FoundAt (enter part b) bs j → (i : ℕ) → i < suc j → begins_fault (after part (take i (b ∷ bs))) (drop i (b ∷ bs)) ≡ false
     earlier j f zero l = e
     earlier j f (suc i) l = f.first i (omega arith)
 
@@ -104,9 +104,9 @@ found_here part at [] h = cc
 found_here part at (b ∷ bs) h = rw h refl
 
 -- one byte further, where it is no fault
-pub one_on : (part : Part) (at size : ℕ) (left after : List ℕ) (whole : Option ℕ) → 1 ≤ length left → after ≡ drop 1 left → begins_fault part left ≡ false → at + length left ≡ size → fault_from part at left ≡ whole →
-    (at + 1 + length after ≡ size) × (fault_from (enter part (get_or left 0 0)) (at + 1) after ≡ whole)
-one_on part at size [] after whole l d b s h = absurd (omega arith)
-one_on part at size (x ∷ xs) after whole l d b s h =
-    let same : after ≡ xs = d in
+pub one_on : (part : Part) (at size : ℕ) (left later : List ℕ) (whole : Option ℕ) → 1 ≤ length left → later ≡ drop 1 left → begins_fault part left ≡ false → at + length left ≡ size → fault_from part at left ≡ whole →
+    (at + 1 + length later ≡ size) × (fault_from (enter part (get_or left 0 0)) (at + 1) later ≡ whole)
+one_on part at size [] later whole l d b s h = absurd (omega arith)
+one_on part at size (x ∷ xs) later whole l d b s h =
+    let same : later ≡ xs = d in
     rw same (omega arith, rw b at h)

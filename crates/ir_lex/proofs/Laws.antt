@@ -22,14 +22,14 @@ cut_are (suc left) at (b ∷ bs) =
 cut_are zero at (b ∷ bs) =
     let e : at ≡ at + 0 = omega arith in
     let f : at + 1 + 0 ≡ at + 1 = omega arith in
-    let behind : AreTokens (at + 1) bs (cut_from 0 (at + 1) bs) = subst (λ (x : ℕ). AreTokens x bs (cut_from 0 (at + 1) bs)) f (cut_are zero (at + 1) bs) in
-    subst (λ (x : ℕ). AreTokens x (b ∷ bs) (cut_from 0 at (b ∷ bs))) e (here (is_blank b) (b == semicolon) refl refl behind (cut_are (more_len b bs) (at + 1) bs)) where
+    let after : AreTokens (at + 1) bs (cut_from 0 (at + 1) bs) = subst (λ (x : ℕ). AreTokens x bs (cut_from 0 (at + 1) bs)) f (cut_are zero (at + 1) bs) in
+    subst (λ (x : ℕ). AreTokens x (b ∷ bs) (cut_from 0 at (b ∷ bs))) e (here (is_blank b) (b == semicolon) refl refl after (cut_are (more_len b bs) (at + 1) bs)) where
       here : (blank comment : Bool) → is_blank b ≡ blank → (b == semicolon) ≡ comment → AreTokens (at + 1) bs (cut_from 0 (at + 1) bs) →
           AreTokens (at + 1 + more_len b bs) (drop (more_len b bs) bs) (cut_from (more_len b bs) (at + 1) bs) →
           AreTokens at (b ∷ bs) (cond blank (cut_from 0 (at + 1) bs) (cond comment [] (record { from = at; to = at + 1 + more_len b bs } ∷ cut_from (more_len b bs) (at + 1) bs)))
-      here true comment e c behind next = Blank at b bs _ e behind
-      here false true e c behind next = subst (λ (x : ℕ). AreTokens at (x ∷ bs) []) (sym (eqb-true b semicolon c)) (Remark at bs)
-      here false false e c behind next = Next at b bs (more_len b bs) _ e c (longest_more b bs) next
+      here true comment e c after next = Blank at b bs _ e after
+      here false true e c after next = subst (λ (x : ℕ). AreTokens at (x ∷ bs) []) (sym (eqb-true b semicolon c)) (Remark at bs)
+      here false false e c after next = Next at b bs (more_len b bs) _ e c (longest_more b bs) next
 
 -- whatever the tokens are, the walk cuts them
 are_cut : {at : ℕ} {bs : List ℕ} {ts : List Token} → AreTokens at bs ts → ts ≡ cut_from 0 at bs

@@ -42,7 +42,7 @@ most_string b bs m s q l (Mark t _) = clash _ (quote_no_mark b q) t
 most_string b bs m s q l (Run h) = clash _ (quote_no_word b q) (both _ _ h).0
 most_string b bs m s q l (Single e) = let z = take_nothing m bs l e in omega arith
 
--- behind a sigil: a token of more than one byte is a name, a quoted name or a number
+-- after a sigil: a token of more than one byte is a name, a quoted name or a number
 pub data Sigil (b c : ℕ) (cs : List ℕ) : Type 0 where
   Plain : begins_name c ≡ true → list_all is_word_byte cs ≡ true → Sigil b c cs
   Quoted : (c == quote) ≡ true → ends_string cs ≡ true → Sigil b c cs
@@ -107,16 +107,16 @@ longest_string b bs s q = record {
   longest = λ m. most_string b bs m s q;
 }
 
--- no more bytes behind a sigil are a token than those behind it that are a name, a quoted name or a number
-behind_sigil : (b c : ℕ) (cs : List ℕ) (n : ℕ) → is_sigil b ≡ true → ((m : ℕ) → m ≤ length cs → Sigil b c (take m cs) → suc m ≤ n) → (m : ℕ) → m ≤ length (c ∷ cs) → IsToken b (take m (c ∷ cs)) → m ≤ n
-behind_sigil b c cs n s h zero l t = omega arith
-behind_sigil b c cs n s h (suc m) l t = h m (omega arith) (sigil b c (take m cs) s t)
+-- no more bytes after a sigil are a token than those after it that are a name, a quoted name or a number
+after_sigil : (b c : ℕ) (cs : List ℕ) (n : ℕ) → is_sigil b ≡ true → ((m : ℕ) → m ≤ length cs → Sigil b c (take m cs) → suc m ≤ n) → (m : ℕ) → m ≤ length (c ∷ cs) → IsToken b (take m (c ∷ cs)) → m ≤ n
+after_sigil b c cs n s h zero l t = omega arith
+after_sigil b c cs n s h (suc m) l t = h m (omega arith) (sigil b c (take m cs) s t)
 
 longest_quoted : (b c : ℕ) (cs : List ℕ) → is_sigil b ≡ true → (c == quote) ≡ true → Longest b (c ∷ cs) (one_more (string_len cs))
 longest_quoted b c cs s q = record {
   within = within (string_len cs) (string_within cs);
   stands = stands (string_len cs) (string_stands cs);
-  longest = behind_sigil b c cs _ s (λ m. most_quoted b c cs m q);
+  longest = after_sigil b c cs _ s (λ m. most_quoted b c cs m q);
 } where
   within : (n : ℕ) → n ≤ length cs → one_more n ≤ length (c ∷ cs)
   within zero l = omega arith
@@ -131,7 +131,7 @@ longest_name : (b c : ℕ) (cs : List ℕ) → is_sigil b ≡ true → (c == quo
 longest_name b c cs s q n = record {
   within = let l = prefix_len-le-length is_word_byte cs in omega arith;
   stands = let e : 1 + prefix_len is_word_byte cs ≡ suc (prefix_len is_word_byte cs) = omega arith in rw e (Name s (rw n (run_passes is_word_byte cs)));
-  longest = behind_sigil b c cs _ s (λ m. most_name b c cs m q n);
+  longest = after_sigil b c cs _ s (λ m. most_name b c cs m q n);
 }
 
 longest_number : (b c : ℕ) (cs : List ℕ) → is_sigil b ≡ true → (c == quote) ≡ false → begins_name c ≡ false → (b == 37) ≡ true → Longest b (c ∷ cs) (prefix_len is_digit (c ∷ cs))
@@ -142,7 +142,7 @@ longest_number b c cs s q n p = record {
         | inl e ↦ Single e
         | inr h ↦ Unnamed (eqb-true b 37 p) h
       ];
-  longest = behind_sigil b c cs _ s (λ m. most_digits b c cs m q n);
+  longest = after_sigil b c cs _ s (λ m. most_digits b c cs m q n);
 }
 
 longest_sigil : (b : ℕ) (bs : List ℕ) → is_sigil b ≡ true → Longest b bs (name_len b bs)
@@ -152,7 +152,7 @@ longest_sigil b (c ∷ cs) s =
     by_test (Longest b (c ∷ cs)) (c == quote) _ _ (longest_quoted b c cs s) (λ q.
     by_test (Longest b (c ∷ cs)) (begins_name c) _ _ (longest_name b c cs s q) (λ n.
     by_test (Longest b (c ∷ cs)) (b == 37) _ _ (longest_number b c cs s q n) (λ p.
-    alone b (c ∷ cs) (behind_sigil b c cs 0 s (λ m l t. absurd (most_bare b c (take m cs) q n p t))))))
+    alone b (c ∷ cs) (after_sigil b c cs 0 s (λ m l t. absurd (most_bare b c (take m cs) q n p t))))))
 
 -- the token that the walk takes is the longest
 pub longest_more : (b : ℕ) (bs : List ℕ) → Longest b bs (more_len b bs)

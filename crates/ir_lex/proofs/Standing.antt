@@ -1,4 +1,4 @@
--- The tokens of bytes in front of which, and behind which, others stand: they are those of the bytes alone, so many places further.
+-- The tokens of bytes in front of which, and after which, others stand: they are those of the bytes alone, so many places further.
 use Rattle.std.proofs.Common.{◌≡◌, ℕ, suc, zero, ◌+◌, ◌-◌, ◌≤◌, ◌==◌, Bool, true, false, cond, not, ◌&&◌, ◌||◌, List, [], ◌∷◌, ◌++◌, length, map, take, drop, Some, None, refl, sym, ◌∙◌, ap, subst, arith, eqb-true, length-take, append_assoc, nat_eq}
 use Rattle.std.proofs.Math.Seq.{drop-append_seam}
 use Rattle.std.proofs.lemmas.List.{take-append-le, take-append-drop, map-append, drop_all, append-nil}
@@ -6,14 +6,14 @@ use Rattle.std.proofs.lemmas.List.Folds.{list_any-append}
 use Rattle.std.specs.List.{list_all}
 use Rattle.ir_lex.specs.Bytes.{quote, semicolon, begins_name, is_word_byte, is_blank, is_control}
 use Rattle.ir_lex.specs.Ends.{ends_outside, is_outside}
-use Rattle.ir_lex.specs.Faults.{enter, behind, opens, has_quote, begins_fault}
+use Rattle.ir_lex.specs.Faults.{enter, after, opens, has_quote, begins_fault}
 use Rattle.ir_lex.specs.Tokens.{IsToken, Longest}
 use Rattle.ir_lex.specs.Scan.{one_more, string_len, more_len, cut_from, cut, texts_from, texts, fault_from, fault_of}
 use Rattle.ir_lex.specs.Words.{word, words}
 use Rattle.ir_lex.specs.declared.list.Token.{Token}
 use Rattle.ir_lex.specs.declared.faults.Part.{Part}
 use Rattle.ir_lex.specs.declared.faults.Part.TheVariants.{Plain, Quoted, Comment}
-use Rattle.ir_lex.proofs.Again.{behind_append, behind_comment, stops, Closes, longest_before, longest_alone, token_plain, blank_plain, plain_byte, fault_shift, fault_append}
+use Rattle.ir_lex.proofs.Again.{after_append, after_comment, stops, Closes, longest_before, longest_alone, token_plain, blank_plain, plain_byte, fault_shift, fault_append}
 use Rattle.ir_lex.proofs.Classes.{both, sigil_no_quote}
 use Rattle.ir_lex.proofs.Longer.{longest_more, longest_once, string_of_quote}
 use Rattle.ir_lex.proofs.Runs.{take_nothing}
@@ -63,7 +63,7 @@ cut_end zero at (b ∷ bs) =
       here x y false true h k = tt
       here x y false false h k = k
 
--- what is taken of the front does not depend on what stands behind it
+-- what is taken of the front does not depend on what stands after it
 take_front : (from to : ℕ) (bs rest : List ℕ) → to ≤ length bs → take (to - from) (drop from (bs ++ rest)) ≡ take (to - from) (drop from bs)
 take_front zero to bs rest l = let e : to - 0 ≡ to = omega arith in rw e (take-append-le to bs rest l)
 take_front (suc from) to [] rest l = let e : to - suc from ≡ 0 = omega (arith, l) in rw e refl
@@ -89,19 +89,19 @@ words_in line bs rest n (t ∷ ts) place l = rw (word_in line bs rest n t place 
 
 -- ---- bytes without a fault
 
--- behind a byte that is no fault there is none
+-- after a byte that is no fault there is none
 fault_next : (part : Part) (b : ℕ) (bs : List ℕ) → fault_from part 0 (b ∷ bs) ≡ None → (begins_fault part (b ∷ bs) ≡ false) × (fault_from (enter part b) 0 bs ≡ None)
 fault_next part b bs h = here (begins_fault part (b ∷ bs)) h where
   here : (t : Bool) → cond t (Some 0) (fault_from (enter part b) (0 + 1) bs) ≡ None → (t ≡ false) × (fault_from (enter part b) 0 bs ≡ None)
   here true h = cc
   here false h = (refl, fault_shift (enter part b) 1 0 bs h)
 
--- nor behind more of them
-pub fault_rest : (part : Part) (bs cs : List ℕ) → fault_from part 0 (bs ++ cs) ≡ None → fault_from (behind part bs) 0 cs ≡ None
+-- nor after more of them
+pub fault_rest : (part : Part) (bs cs : List ℕ) → fault_from part 0 (bs ++ cs) ≡ None → fault_from (after part bs) 0 cs ≡ None
 fault_rest part [] cs h = h
 fault_rest part (b ∷ bs) cs h = fault_rest (enter part b) bs cs (fault_next part b (bs ++ cs) h).1
 
--- a string that does not close has no quote behind its first
+-- a string that does not close has no quote after its first
 open_quote : (bs : List ℕ) → string_len bs ≡ 0 → has_quote bs ≡ false
 unfolding string_len
 open_quote [] h = refl
@@ -128,23 +128,23 @@ quote_closed b bs h none = here (b == quote) refl where
   here true q = absurd (closes_sound (b ∷ bs) h q (string_of_quote b bs q ∙ none))
   here false q = refl
 
--- behind a token there no string is open and no comment has begun
-token_ends : (b : ℕ) (bs : List ℕ) → (b == semicolon) ≡ false → fault_from Plain 0 (b ∷ bs) ≡ None → behind Plain (b ∷ take (more_len b bs) bs) ≡ Plain
+-- after a token there no string is open and no comment has begun
+token_ends : (b : ℕ) (bs : List ℕ) → (b == semicolon) ≡ false → fault_from Plain 0 (b ∷ bs) ≡ None → after Plain (b ∷ take (more_len b bs) bs) ≡ Plain
 token_ends b bs s h = token_plain b (take (more_len b bs) bs) s (λ e. quote_closed b bs h (take_nothing _ bs (longest_more b bs).within e)) (longest_more b bs).stands
 
--- so what stands behind the token has no fault, and leaves open what the whole leaves open
-behind_token : (b : ℕ) (bs : List ℕ) → (b == semicolon) ≡ false → fault_from Plain 0 (b ∷ bs) ≡ None →
-    (fault_from Plain 0 (drop (more_len b bs) bs) ≡ None) × (behind Plain (b ∷ bs) ≡ behind Plain (drop (more_len b bs) bs))
-behind_token b bs s h =
+-- so what stands after the token has no fault, and leaves open what the whole leaves open
+after_token : (b : ℕ) (bs : List ℕ) → (b == semicolon) ≡ false → fault_from Plain 0 (b ∷ bs) ≡ None →
+    (fault_from Plain 0 (drop (more_len b bs) bs) ≡ None) × (after Plain (b ∷ bs) ≡ after Plain (drop (more_len b bs) bs))
+after_token b bs s h =
     let front : List ℕ = b ∷ take (more_len b bs) bs in
     let back : List ℕ = drop (more_len b bs) bs in
     let whole : b ∷ bs ≡ front ++ back = ap (λ x. b ∷ x) (sym (take-append-drop (more_len b bs) bs)) in
-    let ends : behind Plain front ≡ Plain = token_ends b bs s h in (
+    let ends : after Plain front ≡ Plain = token_ends b bs s h in (
       subst (λ (p : Part). fault_from p 0 back ≡ None) ends (fault_rest Plain front back (subst (λ (x : List ℕ). fault_from Plain 0 x ≡ None) whole h)),
-      ap (behind Plain) whole ∙ behind_append Plain front back ∙ ap (λ (p : Part). behind p back) ends,
+      ap (after Plain) whole ∙ after_append Plain front back ∙ ap (λ (p : Part). after p back) ends,
     )
 
--- a token there is the same with more bytes behind it that stop it
+-- a token there is the same with more bytes after it that stop it
 more_before : (b : ℕ) (bs rest : List ℕ) → (b == semicolon) ≡ false → fault_from Plain 0 (b ∷ bs) ≡ None → stops rest ≡ true → more_len b (bs ++ rest) ≡ more_len b bs
 more_before b bs rest s h stop =
     longest_once b (bs ++ rest) _ _ (longest_more b (bs ++ rest)) (longest_before b bs rest (more_len b bs) stop (closes_sound (b ∷ bs) h)
@@ -153,7 +153,7 @@ more_before b bs rest s h stop =
 -- the tokens of two pieces: those of the one, and those of the other so many places further. The first has no fault, and the second
 -- does not go on with a word; where the first ends in a comment, the second has no tokens
 cut_append_from : (left at : ℕ) (bs rest : List ℕ) → left ≤ length bs → fault_from Plain 0 (drop left bs) ≡ None → stops rest ≡ true →
-    (behind Plain (drop left bs) ≡ Comment → (n : ℕ) → cut_from 0 n rest ≡ []) → cut_from left at (bs ++ rest) ≡ cut_from left at bs ++ cut_from 0 (at + length bs) rest
+    (after Plain (drop left bs) ≡ Comment → (n : ℕ) → cut_from 0 n rest ≡ []) → cut_from left at (bs ++ rest) ≡ cut_from left at bs ++ cut_from 0 (at + length bs) rest
 cut_append_from zero at [] rest l h stop remark = let e : at + 0 ≡ at = omega arith in rw e refl
 cut_append_from (suc left) at [] rest l h stop remark = absurd (omega (arith, l))
 cut_append_from (suc left) at (b ∷ bs) rest l h stop remark =
@@ -163,8 +163,8 @@ cut_append_from zero at (b ∷ bs) rest l h stop remark =
     let e : at + suc (length bs) ≡ at + 1 + length bs = omega arith in
     rw e (here (is_blank b) (b == semicolon) refl refl
     (λ blank. cut_append_from 0 (at + 1) bs rest (omega arith) (subst (λ (p : Part). fault_from p 0 bs ≡ None) (blank_plain b blank) (fault_next Plain b bs h).1) stop
-    (λ c. remark (ap (λ (p : Part). behind p bs) (blank_plain b blank) ∙ c)))
-    (λ s. cut_append_from (more_len b bs) (at + 1) bs rest (longest_more b bs).within (behind_token b bs s h).0 stop (λ c. remark ((behind_token b bs s h).1 ∙ c)))) where
+    (λ c. remark (ap (λ (p : Part). after p bs) (blank_plain b blank) ∙ c)))
+    (λ s. cut_append_from (more_len b bs) (at + 1) bs rest (longest_more b bs).within (after_token b bs s h).0 stop (λ c. remark ((after_token b bs s h).1 ∙ c)))) where
       token : (n m : ℕ) → n ≡ m → cut_from m (at + 1) (bs ++ rest) ≡ cut_from m (at + 1) bs ++ cut_from 0 (at + 1 + length bs) rest →
           record { from = at; to = at + 1 + n } ∷ cut_from n (at + 1) (bs ++ rest) ≡ record { from = at; to = at + 1 + m } ∷ (cut_from m (at + 1) bs ++ cut_from 0 (at + 1 + length bs) rest)
       token n m e next = rw (e, next) refl
@@ -176,22 +176,22 @@ cut_append_from zero at (b ∷ bs) rest l h stop remark =
           ≡ cond blank (cut_from 0 (at + 1) bs) (cond comment [] (record { from = at; to = at + 1 + more_len b bs } ∷ cut_from (more_len b bs) (at + 1) bs)) ++ cut_from 0 (at + 1 + length bs) rest
       here true comment e c skip next = skip e
       here false true e c skip next =
-          let opened : behind Plain (b ∷ bs) ≡ Comment = subst (λ (x : ℕ). behind (enter Plain x) bs ≡ Comment) (sym (eqb-true b semicolon c)) (behind_comment bs) in
+          let opened : after Plain (b ∷ bs) ≡ Comment = subst (λ (x : ℕ). after (enter Plain x) bs ≡ Comment) (sym (eqb-true b semicolon c)) (after_comment bs) in
           sym (remark opened (at + 1 + length bs))
       here false false e c skip next = token (more_len b (bs ++ rest)) (more_len b bs) (more_before b bs rest c h stop) (next c)
 
 -- ---- what stands in a line
 
 -- bytes that end outside strings and comments, by the walk
-pub ends_plain : (bs : List ℕ) → ends_outside bs ≡ true → behind Plain bs ≡ Plain
+pub ends_plain : (bs : List ℕ) → ends_outside bs ≡ true → after Plain bs ≡ Plain
 unfolding ends_outside
-ends_plain bs h = here (behind Plain bs) h where
+ends_plain bs h = here (after Plain bs) h where
   here : (p : Part) → is_outside p ≡ true → p ≡ Plain
   here Plain h = refl
   here Quoted h = cc
   here Comment h = cc
 
-pub plain_ends : (bs : List ℕ) → behind Plain bs ≡ Plain → ends_outside bs ≡ true
+pub plain_ends : (bs : List ℕ) → after Plain bs ≡ Plain → ends_outside bs ≡ true
 unfolding ends_outside
 plain_ends bs h = rw h refl
 
@@ -200,7 +200,7 @@ pub fault_both : (bs rest : List ℕ) → fault_of bs ≡ None → ends_outside 
 fault_both bs rest h ends k = fault_append Plain 0 bs rest h (subst (λ (p : Part). fault_from p 0 rest ≡ None) (sym (ends_plain bs ends)) k)
 
 pub ends_both : (bs rest : List ℕ) → ends_outside bs ≡ true → ends_outside rest ≡ true → ends_outside (bs ++ rest) ≡ true
-ends_both bs rest h k = plain_ends (bs ++ rest) (behind_append Plain bs rest ∙ ap (λ (p : Part). behind p rest) (ends_plain bs h) ∙ ends_plain rest k)
+ends_both bs rest h k = plain_ends (bs ++ rest) (after_append Plain bs rest ∙ ap (λ (p : Part). after p rest) (ends_plain bs h) ∙ ends_plain rest k)
 
 -- the tokens of two pieces
 pub cut_append : (bs rest : List ℕ) → fault_of bs ≡ None → ends_outside bs ≡ true → stops rest ≡ true → cut (bs ++ rest) ≡ cut bs ++ map (shifted (length bs)) (cut rest)
@@ -245,7 +245,7 @@ words_stand {line} {part} s =
     let ends : EndBy (length part) (cut_from 0 0 part) = subst (λ (n : ℕ). EndBy n (cut_from 0 0 part)) e (cut_end 0 0 part) in
     ap (words line) s.tokens ∙ words_in line part s.rest s.at (cut part) s.place ends ∙ words_of_line part
 
--- what stands behind a space
+-- what stands after a space
 pub stands_space : {line part : List ℕ} {ts : List Token} → Stands line (32 ∷ part) ts → Stands line part ts
 unfolding cut is_blank
 stands_space {line} {part} s = record {
@@ -281,7 +281,7 @@ stands_append {line} {ts} bs cs h ends stop s = record {
 
 -- ---- the bytes from one token to another
 
--- the place behind the last of these tokens; `to` where there is none
+-- the place after the last of these tokens; `to` where there is none
 abbrev pub last_end : ℕ → List Token → ℕ
 last_end to [] = to
 last_end to (t ∷ ts) = last_end t.to ts
@@ -293,7 +293,7 @@ pub record Front (left at : ℕ) (bs : List ℕ) (ts : List Token) : Type 0 wher
   pub reaches : left ≤ size
   pub end : last_end at ts ≡ at + size
   pub tokens : cut_from left at (take size bs) ≡ ts
-  pub ends : behind Plain (drop left (take size bs)) ≡ Plain
+  pub ends : after Plain (drop left (take size bs)) ≡ Plain
 
 nothing_cut : {P : Type 0} {t : Token} {ts : List Token} → [] ≡ t ∷ ts → P
 nothing_cut e = cc
@@ -314,14 +314,14 @@ more_within b n bs l =
     let long : Longest b (take n bs ++ drop n bs) (more_len b bs) = subst (λ (x : List ℕ). Longest b x (more_len b bs)) (sym (take-append-drop n bs)) (longest_more b bs) in
     longest_once b (take n bs) _ _ (longest_more b (take n bs)) (longest_alone b (take n bs) (drop n bs) (more_len b bs) l long)
 
--- what ends behind the first bytes, where they begin with a token
-token_front : (b n : ℕ) (bs : List ℕ) → (b == semicolon) ≡ false → fault_from Plain 0 (b ∷ bs) ≡ None → more_len b bs ≤ length (take n bs) → behind Plain (drop (more_len b bs) (take n bs)) ≡ Plain → behind Plain (b ∷ take n bs) ≡ Plain
+-- what ends after the first bytes, where they begin with a token
+token_front : (b n : ℕ) (bs : List ℕ) → (b == semicolon) ≡ false → fault_from Plain 0 (b ∷ bs) ≡ None → more_len b bs ≤ length (take n bs) → after Plain (drop (more_len b bs) (take n bs)) ≡ Plain → after Plain (b ∷ take n bs) ≡ Plain
 token_front b n bs s h l k =
     let m : ℕ = more_len b bs in
     let xs : List ℕ = take n bs in
     let same : take m xs ≡ take m bs = sym (take-append-le m xs (drop n bs) l) ∙ ap (take m) (take-append-drop n bs) in
-    let ends : behind Plain (b ∷ take m xs) ≡ Plain = ap (λ (x : List ℕ). behind Plain (b ∷ x)) same ∙ token_ends b bs s h in
-    ap (λ (x : List ℕ). behind Plain (b ∷ x)) (sym (take-append-drop m xs)) ∙ behind_append (enter Plain b) (take m xs) (drop m xs) ∙ ap (λ (p : Part). behind p (drop m xs)) ends ∙ k
+    let ends : after Plain (b ∷ take m xs) ≡ Plain = ap (λ (x : List ℕ). after Plain (b ∷ x)) same ∙ token_ends b bs s h in
+    ap (λ (x : List ℕ). after Plain (b ∷ x)) (sym (take-append-drop m xs)) ∙ after_append (enter Plain b) (take m xs) (drop m xs) ∙ ap (λ (p : Part). after p (drop m xs)) ends ∙ k
 
 front_cut : (left at : ℕ) (bs : List ℕ) (t : Token) (ts us : List Token) → fault_from Plain 0 (drop left bs) ≡ None → left ≤ length bs → cut_from left at bs ≡ t ∷ (ts ++ us) → Front left at bs (t ∷ ts)
 front_cut zero at [] t ts us h l e = nothing_cut e
@@ -347,7 +347,7 @@ front_cut zero at (b ∷ bs) t ts us h l e =
         reaches = omega arith;
         end = let k = f.end in omega (arith, k);
         tokens = rw blank f.tokens;
-        ends = ap (λ (p : Part). behind p (take f.size bs)) (blank_plain b blank) ∙ f.ends;
+        ends = ap (λ (p : Part). after p (take f.size bs)) (blank_plain b blank) ∙ f.ends;
       }
 
       one : is_blank b ≡ false → (b == semicolon) ≡ false → Front 0 at (b ∷ bs) (record { from = at; to = at + 1 + more_len b bs } ∷ [])
@@ -363,7 +363,7 @@ front_cut zero at (b ∷ bs) t ts us h l e =
             reaches = omega arith;
             end = omega arith;
             tokens = rw (blank, s, same, none) refl;
-            ends = token_front b n bs s h (omega (arith, all)) (ap (behind Plain) no_more);
+            ends = token_front b n bs s h (omega (arith, all)) (ap (after Plain) no_more);
           }
 
       more : is_blank b ≡ false → (b == semicolon) ≡ false → (u : Token) (ws : List Token) → Front (more_len b bs) (at + 1) bs (u ∷ ws) → Front 0 at (b ∷ bs) (record { from = at; to = at + 1 + more_len b bs } ∷ u ∷ ws)
@@ -384,7 +384,7 @@ front_cut zero at (b ∷ bs) t ts us h l e =
           ((u : Token) (ws vs : List Token) → fault_from Plain 0 (drop (more_len b bs) bs) ≡ None → more_len b bs ≤ length bs → cut_from (more_len b bs) (at + 1) bs ≡ u ∷ (ws ++ vs) → Front (more_len b bs) (at + 1) bs (u ∷ ws)) →
           Front 0 at (b ∷ bs) (record { from = at; to = at + 1 + more_len b bs } ∷ ts)
       token blank s [] k next = one blank s
-      token blank s (u ∷ ws) k next = more blank s u ws (next u ws us (behind_token b bs s h).0 (longest_more b bs).within k)
+      token blank s (u ∷ ws) k next = more blank s u ws (next u ws us (after_token b bs s h).0 (longest_more b bs).within k)
 
       here : (blank comment : Bool) → is_blank b ≡ blank → (b == semicolon) ≡ comment →
           cond blank (cut_from 0 (at + 1) bs) (cond comment [] (record { from = at; to = at + 1 + more_len b bs } ∷ cut_from (more_len b bs) (at + 1) bs)) ≡ t ∷ (ts ++ us) →
@@ -395,7 +395,7 @@ front_cut zero at (b ∷ bs) t ts us h l e =
       here false true i c k skip next = nothing_cut k
       here false false i c k skip next = subst (λ (x : Token). Front 0 at (b ∷ bs) (x ∷ ts)) (first_cut k) (token i c ts (rest_cut k) (next c))
 
--- the tokens from `t` on are those of what stands behind the first `skip` bytes
+-- the tokens from `t` on are those of what stands after the first `skip` bytes
 pub record Back (left at : ℕ) (bs : List ℕ) (t : Token) (ts : List Token) : Type 0 where
   pub skip : ℕ
   pub from : t.from ≡ at + skip
@@ -415,7 +415,7 @@ back_cut (suc left) at (b ∷ bs) us t ts h e = further (back_cut left (at + 1) 
 back_cut zero at (b ∷ bs) us t ts h e =
     here (is_blank b) (b == semicolon) refl refl e
     (λ blank k. back_cut 0 (at + 1) bs us t ts (subst (λ (p : Part). fault_from p 0 bs ≡ None) (blank_plain b blank) (fault_next Plain b bs h).1) k)
-    (λ s vs k. back_cut (more_len b bs) (at + 1) bs vs t ts (behind_token b bs s h).0 k) where
+    (λ s vs k. back_cut (more_len b bs) (at + 1) bs vs t ts (after_token b bs s h).0 k) where
       further : (left : ℕ) → Back left (at + 1) bs t ts → Back 0 at (b ∷ bs) t ts
       further left f =
           let e : at + suc f.skip ≡ at + 1 + f.skip = omega arith in
@@ -442,18 +442,18 @@ back_cut zero at (b ∷ bs) us t ts h e =
       here false false i c k skip next = token i c us k (next c)
 
 -- where strings are closed at the end of the first bytes, these have no fault alone
-quoted_closes : (bs : List ℕ) → behind Quoted bs ≡ Plain → has_quote bs ≡ true
+quoted_closes : (bs : List ℕ) → after Quoted bs ≡ Plain → has_quote bs ≡ true
 quoted_closes [] h = cc
 quoted_closes (b ∷ bs) h = here (b == quote) h (quoted_closes bs) where
-  here : (t : Bool) → behind (cond t Plain Quoted) bs ≡ Plain → (behind Quoted bs ≡ Plain → has_quote bs ≡ true) → t || has_quote bs ≡ true
+  here : (t : Bool) → after (cond t Plain Quoted) bs ≡ Plain → (after Quoted bs ≡ Plain → has_quote bs ≡ true) → t || has_quote bs ≡ true
   here true h next = refl
   here false h next = next h
 
-fault_first : (part : Part) (at : ℕ) (bs cs : List ℕ) → fault_from part at (bs ++ cs) ≡ None → behind part bs ≡ Plain → fault_from part at bs ≡ None
+fault_first : (part : Part) (at : ℕ) (bs cs : List ℕ) → fault_from part at (bs ++ cs) ≡ None → after part bs ≡ Plain → fault_from part at bs ≡ None
 fault_first part at [] cs h k = refl
 fault_first part at (b ∷ bs) cs h k =
     here (begins_fault part (b ∷ (bs ++ cs))) refl h (λ f. fault_first (enter part b) (at + 1) bs cs f k) where
-      opened : (p : Part) → behind (enter p b) bs ≡ Plain → opens p b ≡ true → has_quote bs ≡ true
+      opened : (p : Part) → after (enter p b) bs ≡ Plain → opens p b ≡ true → has_quote bs ≡ true
       opened Plain k o = quoted_closes bs (rw o at k)
       opened Quoted k o = cc
       opened Comment k o = cc
@@ -499,7 +499,7 @@ between_tokens line us t ts vs h e = back (back_cut 0 0 line us t (ts ++ vs) h e
   back : Back 0 0 line t (ts ++ vs) → Between line (take (last_end t.to ts - t.from) (drop t.from line)) (t ∷ ts)
   back b = front b (front_cut 0 (0 + b.skip) (drop b.skip line) t ts vs b.sound (omega arith) b.tokens)
 
--- ---- spaces behind a line
+-- ---- spaces after a line
 
 -- where no quote follows the first bytes, these have no fault alone
 fault_before : (part : Part) (at : ℕ) (bs cs : List ℕ) → fault_from part at (bs ++ cs) ≡ None → has_quote cs ≡ false → fault_from part at bs ≡ None

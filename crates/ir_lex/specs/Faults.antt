@@ -7,16 +7,16 @@ use Rattle.ir_lex.specs.declared.faults.Part.TheVariants.{Plain, Quoted, Comment
 use Rattle.ir_lex.specs.declared.refusal.LexRefusal.{LexRefusal}
 use Rattle.ir_lex.specs.declared.refusal.LexRefusal.TheVariants.{Lex, OutOfMemory}
 
--- the part of the line behind a byte
+-- the part of the line after a byte
 abbrev pub enter : Part → ℕ → Part
 enter Plain b = cond (b == quote) Quoted (cond (b == semicolon) Comment Plain)
 enter Quoted b = cond (b == quote) Plain Quoted
 enter Comment b = Comment
 
--- the part of the line behind these bytes
-abbrev pub behind : Part → List ℕ → Part
-behind part [] = part
-behind part (b ∷ bs) = behind (enter part b) bs
+-- the part of the line after these bytes
+abbrev pub after : Part → List ℕ → Part
+after part [] = part
+after part (b ∷ bs) = after (enter part b) bs
 
 -- whether a byte there opens a string: a quote outside strings and comments
 abbrev pub opens : Part → ℕ → Bool
@@ -35,7 +35,7 @@ begins_fault part (b ∷ bs) = is_control b || opens part b && not (has_quote bs
 
 -- whether there is a lexical fault at the place `k` of a line
 abbrev pub is_fault : List ℕ → ℕ → Bool
-is_fault line k = begins_fault (behind Plain (take k line)) (drop k line)
+is_fault line k = begins_fault (after Plain (take k line)) (drop k line)
 
 -- the first lexical fault of a line stands at the place `k`
 pub record FirstFault (line : List ℕ) (k : ℕ) : Type 0 where

@@ -12,12 +12,12 @@ abbrev pub one_more : ℕ → ℕ
 one_more zero = zero
 one_more (suc n) = suc (suc n)
 
--- how many bytes a string has behind its opening quote, the closing one counted; 0 where it does not close
+-- how many bytes a string has after its opening quote, the closing one counted; 0 where it does not close
 unfoldable pub string_len : List ℕ → ℕ
 string_len [] = 0
 string_len (b ∷ bs) = cond (b == quote) 1 (one_more (string_len bs))
 
--- how many bytes a name has behind its sigil `b`
+-- how many bytes a name has after its sigil `b`
 unfoldable pub name_len : ℕ → List ℕ → ℕ
 name_len b [] = 0
 name_len b (c ∷ cs) =
@@ -25,7 +25,7 @@ name_len b (c ∷ cs) =
     (cond (begins_name c) (1 + prefix_len is_word_byte cs)
     (cond (b == 37) (prefix_len is_digit (c ∷ cs)) 0))
 
--- how many bytes of the longest token that begins with `b` stand behind it
+-- how many bytes of the longest token that begins with `b` stand after it
 unfoldable pub more_len : ℕ → List ℕ → ℕ
 more_len b bs =
     cond (is_sigil b) (name_len b bs)

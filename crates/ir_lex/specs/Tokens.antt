@@ -10,7 +10,7 @@ abbrev pub is_empty : List ℕ → Bool
 is_empty [] = true
 is_empty (b ∷ bs) = false
 
--- whether these bytes, behind an opening quote, end with the closing one: the first quote among them is the last byte
+-- whether these bytes, after an opening quote, end with the closing one: the first quote among them is the last byte
 abbrev pub ends_string : List ℕ → Bool
 ends_string [] = false
 ends_string (b ∷ bs) = cond (b == quote) (is_empty bs) (ends_string bs)
@@ -20,7 +20,7 @@ abbrev pub is_string : List ℕ → Bool
 is_string [] = false
 is_string (b ∷ bs) = b == quote && ends_string bs
 
--- a plain name, as it stands behind `@` or `%`
+-- a plain name, as it stands after `@` or `%`
 abbrev pub is_name : List ℕ → Bool
 is_name [] = false
 is_name (b ∷ bs) = begins_name b && list_all is_word_byte bs
@@ -30,7 +30,7 @@ abbrev pub is_number : List ℕ → Bool
 is_number [] = false
 is_number (b ∷ bs) = is_digit b && list_all is_digit bs
 
--- the byte `b` and the bytes `bs` behind it are a token
+-- the byte `b` and the bytes `bs` after it are a token
 pub data IsToken (b : ℕ) (bs : List ℕ) : Type 0 where
   -- `@` or `%` and a plain name
   Name : is_sigil b ≡ true → is_name bs ≡ true → IsToken b bs
@@ -47,7 +47,7 @@ pub data IsToken (b : ℕ) (bs : List ℕ) : Type 0 where
   -- a single byte
   Single : bs ≡ [] → IsToken b bs
 
--- of the tokens that begin with `b`, where `bs` are the bytes behind it, the longest has `n` bytes behind `b`
+-- of the tokens that begin with `b`, where `bs` are the bytes after it, the longest has `n` bytes after `b`
 pub record Longest (b : ℕ) (bs : List ℕ) (n : ℕ) : Type 0 where
   pub within : n ≤ length bs
   pub stands : IsToken b (take n bs)
@@ -61,7 +61,7 @@ pub data AreTokens : ℕ → List ℕ → List Token → Type 0 where
   Remark : (at : ℕ) (bs : List ℕ) → AreTokens at (semicolon ∷ bs) []
   -- spaces and tabs stand between tokens
   Blank : (at b : ℕ) (bs : List ℕ) (ts : List Token) → is_blank b ≡ true → AreTokens (at + 1) bs ts → AreTokens at (b ∷ bs) ts
-  -- any other byte begins a token, the longest that begins there, and the tokens behind it follow
+  -- any other byte begins a token, the longest that begins there, and the tokens after it follow
   Next : (at b : ℕ) (bs : List ℕ) (n : ℕ) (ts : List Token) → is_blank b ≡ false → (b == semicolon) ≡ false → Longest b bs n →
       AreTokens (at + 1 + n) (drop n bs) ts → AreTokens at (b ∷ bs) (record { from = at; to = at + 1 + n } ∷ ts)
 

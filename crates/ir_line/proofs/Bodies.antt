@@ -16,8 +16,8 @@ pub data Stage : Type 0 where
   Between : Stage
   -- a block that has phis alone yet
   Front : Stage
-  -- a block behind an instruction that is no phi
-  Behind : Stage
+  -- a block after an instruction that is no phi
+  After : Stage
   -- a `switch` whose end has not come
   Cases : Stage
 
@@ -31,7 +31,7 @@ IsCases _ = ⊥
 
 -- an instruction may stand there
 abbrev pub May : Stage → Op → Type 0
-May Behind op = is_phi op ≡ false
+May After op = is_phi op ≡ false
 May Cases op = ⊥
 May _ op = Unit {0}
 
@@ -42,7 +42,7 @@ stage_after (Br to) = Between
 stage_after (CondBr first second) = Between
 stage_after (Switch other cases to) = Cases
 stage_after Unreachable = Between
-stage_after _ = Behind
+stage_after _ = After
 
 -- how many blocks have begun with the one in which an instruction stands
 abbrev pub begun : Stage → ℕ → ℕ
@@ -64,21 +64,21 @@ Stands stage n (line.Case value label) = IsSoundCase value
 Stands stage n line.CasesEnd = IsCases stage
 Stands stage n _ = ⊥
 
-abbrev pub stage_behind : Stage → Line → Stage
-stage_behind stage (line.Label name) = Front
-stage_behind stage (line.Stmt s) = stage_after s.op
-stage_behind stage line.CasesEnd = Between
-stage_behind stage _ = stage
+abbrev pub stage_after_line : Stage → Line → Stage
+stage_after_line stage (line.Label name) = Front
+stage_after_line stage (line.Stmt s) = stage_after s.op
+stage_after_line stage line.CasesEnd = Between
+stage_after_line stage _ = stage
 
-abbrev pub begun_behind : Stage → ℕ → Line → ℕ
-begun_behind stage n (line.Label name) = n + 1
-begun_behind stage n (line.Stmt s) = begun stage n
-begun_behind stage n _ = n
+abbrev pub begun_after : Stage → ℕ → Line → ℕ
+begun_after stage n (line.Label name) = n + 1
+begun_after stage n (line.Stmt s) = begun stage n
+begun_after stage n _ = n
 
 -- lines that may follow one another to the end of a function
 abbrev pub IsBodyFrom : Stage → ℕ → List Numbered → Type 0
 IsBodyFrom stage n [] = IsBetween stage × (0 < n)
-IsBodyFrom stage n (x ∷ xs) = Stands stage n x.form × IsBodyFrom (stage_behind stage x.form) (begun_behind stage n x.form) xs
+IsBodyFrom stage n (x ∷ xs) = Stands stage n x.form × IsBodyFrom (stage_after_line stage x.form) (begun_after stage n x.form) xs
 
 abbrev pub IsBody : List Numbered → Type 0
 IsBody body = IsBodyFrom Between 0 body

@@ -15,7 +15,7 @@ use Rattle.ir_forms.specs.Pieces.{SpellsTy, Integer, Pointer, Vector, SpellsOper
 use Rattle.ir_forms.specs.Operands.{operand_at}
 use Rattle.ir_line.specs.declared.calls.Arguments.{Arguments}
 use Rattle.ir_line.specs.Headers.{span, depth_after, ty_len}
-use Rattle.ir_line.specs.Calls.{angles_after, ends_argument, argument_len, argument_at, behind_argument, whole_operand, operand_from, are_attributes, argument_of, argument, no_arguments, one_argument, with_arguments, closed_arguments, arguments_within, arguments_at}
+use Rattle.ir_line.specs.Calls.{angles_after, ends_argument, argument_len, argument_at, after_argument, whole_operand, operand_from, are_attributes, argument_of, argument, no_arguments, one_argument, with_arguments, closed_arguments, arguments_within, arguments_at}
 use Rattle.ir_line.specs.CallSpelling.{ends_by, SpellsArgument, SpellsArguments, LastArgument, MoreArguments, SpellsInside, NoArgument, SomeArguments}
 use Rattle.ir_forms.proofs.Parts.{ty_takes, ty_taken, ty_shorter, NoTy, ty_not, operand_taken, operand_takes, operand_shorter}
 use Rattle.ir_forms.proofs.Steps.{nothing, clash, some_is, bind_then, when_then, cond_then, choose_then, both_true, not_true, bytes_is, bytes_same}
@@ -23,7 +23,7 @@ use Rattle.ir_line.proofs.Returns.{words_append, spelled_size}
 
 -- ---- where an argument ends
 
--- the first of the words behind an argument ends it
+-- the first of the words after an argument ends it
 ended : (d a : ℕ) (ws : Words) (by : List ℕ) (rest : Words) → drop (argument_len d a ws) ws ≡ by ∷ rest → ends_by d a (take (argument_len d a ws) ws) by ≡ true
 ended d a [] by rest e = cc
 ended d a (t ∷ ts) by rest e = here (ends_argument d a t) refl e (ended (depth_after d t) (angles_after d a t) ts by rest) where
@@ -95,7 +95,7 @@ own_type (Integer w word rest h) = Integer w word [] h
 own_type (Pointer rest) = Pointer []
 own_type (Vector n w count word rest hn hw row) = Vector n w count word [] hn hw row
 
--- a type with more words behind it
+-- a type with more words after it
 type_more : {t : Ty} {ts : Words} (more : Words) → SpellsTy t ts [] → SpellsTy t (ts ++ more) more
 type_more more (Integer w word rest h) = Integer w word more h
 type_more more (Pointer rest) = Pointer more
@@ -157,13 +157,13 @@ first_token : (line v : List ℕ) (ts : List Token) → is_first v (words line t
 first_token line v [] e = clash (sym e)
 first_token line v (t ∷ ts) e = (t, refl, bytes_is (word line t) v e)
 
-own_ends : (line : List ℕ) (ts : List Token) (t : Token) (v : List ℕ) → behind_argument line ts ≡ t ∷ drop 1 (behind_argument line ts) → word line t ≡ v → ends_by 0 0 (words line (argument_at line ts)) v ≡ true
+own_ends : (line : List ℕ) (ts : List Token) (t : Token) (v : List ℕ) → after_argument line ts ≡ t ∷ drop 1 (after_argument line ts) → word line t ≡ v → ends_by 0 0 (words line (argument_at line ts)) v ≡ true
 own_ends line ts t v e w =
     let k : ℕ = argument_len 0 0 (words line ts) in
-    let back : drop k (words line ts) ≡ v ∷ words line (drop 1 (behind_argument line ts)) = drop-map (word line) k ts ∙ ap (words line) e ∙ ap (λ (x : List ℕ). x ∷ words line (drop 1 (behind_argument line ts))) w in
+    let back : drop k (words line ts) ≡ v ∷ words line (drop 1 (after_argument line ts)) = drop-map (word line) k ts ∙ ap (words line) e ∙ ap (λ (x : List ℕ). x ∷ words line (drop 1 (after_argument line ts))) w in
     ap (λ (x : Words). ends_by 0 0 x v) (sym (take-map (word line) k ts)) ∙ ended 0 0 (words line ts) v _ back
 
-own_apart : (line : List ℕ) (ts : List Token) (t : Token) → behind_argument line ts ≡ t ∷ drop 1 (behind_argument line ts) → argument_at line ts ++ t ∷ drop 1 (behind_argument line ts) ≡ ts
+own_apart : (line : List ℕ) (ts : List Token) (t : Token) → after_argument line ts ≡ t ∷ drop 1 (after_argument line ts) → argument_at line ts ++ t ∷ drop 1 (after_argument line ts) ≡ ts
 own_apart line ts t e = ap (λ (us : List Token). argument_at line ts ++ us) (sym e) ∙ take-append-drop (argument_len 0 0 (words line ts)) ts
 
 arguments_taken : (bound : List Token) (line : List ℕ) (ts : List Token) (x : Arguments × List Token) → arguments_within bound line ts ≡ Some x → SpellsArguments line x.0 ts x.1
@@ -171,7 +171,7 @@ arguments_taken [] line ts x e = nothing e
 arguments_taken (_ ∷ bound) line ts x e =
     bind_then (argument line (argument_at line ts)) _ x e (λ a ea e2.
     let own : SpellsArgument line a (argument_at line ts) = argument_spelled line (argument_at line ts) a ea in
-    let us : List Token = behind_argument line ts in
+    let us : List Token = after_argument line ts in
     cond_then (is_first (codes ",") (words line us)) _ _ _ e2
     (λ first e3.
     let t : (t : Token) × (us ≡ t ∷ drop 1 us) × (word line t ≡ codes ",") = first_token line (codes ",") us first in
@@ -198,7 +198,7 @@ some_argument {line} {a} {ts} s =
 -- where an argument stands before a word that ends it
 record Split (line : List ℕ) (own : List Token) (t : Token) (rest : List Token) : Type 0 where
   at : argument_at line (own ++ t ∷ rest) ≡ own
-  behind : behind_argument line (own ++ t ∷ rest) ≡ t ∷ rest
+  after : after_argument line (own ++ t ∷ rest) ≡ t ∷ rest
 
 split : (line : List ℕ) (own : List Token) (t : Token) (rest : List Token) (v : List ℕ) → word line t ≡ v → ends_by 0 0 (words line own) v ≡ true → Split line own t rest
 split line own t rest v w e =
@@ -206,19 +206,19 @@ split line own t rest v w e =
     ap (argument_len 0 0) (words_append line own (t ∷ rest)) ∙ ending 0 0 (words line own) (word line t) (words line rest) (ap (ends_by 0 0 (words line own)) w ∙ e) ∙ length-map own (word line) in
     record {
       at = ap (λ (k : ℕ). take k (own ++ t ∷ rest)) size ∙ take-append_seam own (t ∷ rest);
-      behind = ap (λ (k : ℕ). drop k (own ++ t ∷ rest)) size ∙ drop-append_seam own (t ∷ rest);
+      after = ap (λ (k : ℕ). drop k (own ++ t ∷ rest)) size ∙ drop-append_seam own (t ∷ rest);
     }
 
 arguments_take : {line : List ℕ} {i : Arguments} {ts rest : List Token} → SpellsArguments line i ts rest → (bound : List Token) → length ts ≤ length bound → arguments_within bound line ts ≡ Some (i, rest)
 arguments_take {line} (LastArgument a own close rest s w e) [] l = absurd (omega (arith, l, length-append own (close ∷ rest)))
 arguments_take {line} (LastArgument a own close rest s w e) (_ ∷ bound) l =
     let p : Split line own close rest = split line own close rest (codes ")") w e in
-    rw (p.at, p.behind, argument_read line own a s, w) refl
+    rw (p.at, p.after, argument_read line own a s, w) refl
 arguments_take {line} (MoreArguments a i own comma us rest s w e more) [] l = absurd (omega (arith, l, length-append own (comma ∷ us)))
 arguments_take {line} (MoreArguments a i own comma us rest s w e more) (_ ∷ bound) l =
     let p : Split line own comma us = split line own comma us (codes ",") w e in
     let less : length us ≤ length bound = omega (arith, l, length-append own (comma ∷ us)) in
-    rw (p.at, p.behind, argument_read line own a s, w, arguments_take more bound less) refl
+    rw (p.at, p.after, argument_read line own a s, w, arguments_take more bound less) refl
 
 no_type : NoTy (codes ")")
 unfolding width_of
@@ -235,16 +235,18 @@ not_closed : {line : List ℕ} {i : Arguments} {ts rest : List Token} → Spells
 not_closed {line} (LastArgument a own close rest s w e) = begins line own a s (close ∷ rest)
 not_closed {line} (MoreArguments a i own comma us rest s w e more) = begins line own a s (comma ∷ us)
 
--- ---- behind the `(`
+-- ---- after the `(`
 
 pub inside_spelled : (line : List ℕ) (o : Token) (ts : List Token) (x : Arguments × List Token) → arguments_at line (o ∷ ts) ≡ Some x → (word line o ≡ codes "(") × SpellsInside line x.0 ts x.1
 unfolding arguments_at
 inside_spelled line o ts x e =
     cond_then (bytes_eq (word line o) (codes "(")) _ _ _ e
-    (λ opened e2. (bytes_is (word line o) (codes "(") opened,
-    cond_then (is_first (codes ")") (words line ts)) _ _ _ e2
-    (λ close same. subst (λ z. SpellsInside line z.0 ts z.1) (some_is same) (nothing_inside close))
-    (λ _ e3. SomeArguments x.0 ts x.1 (arguments_taken ts line ts x e3))))
+    (λ opened e2. (
+      bytes_is (word line o) (codes "(") opened,
+      cond_then (is_first (codes ")") (words line ts)) _ _ _ e2
+          (λ close same. subst (λ z. SpellsInside line z.0 ts z.1) (some_is same) (nothing_inside close))
+          (λ _ e3. SomeArguments x.0 ts x.1 (arguments_taken ts line ts x e3)),
+    ))
     (λ _ none. nothing none)
   where
     nothing_inside : is_first (codes ")") (words line ts) ≡ true → SpellsInside line no_arguments ts (drop 1 ts)

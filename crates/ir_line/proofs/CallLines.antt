@@ -5,15 +5,15 @@ use Rattle.ir_lex.specs.Words.{word, words}
 use Rattle.ir_lex.specs.Bytes.{begins_name}
 use Rattle.ir_draft.specs.declared.line.Line.{Line}
 use Rattle.ir_words.specs.Values.{width_of, local_of, label_of, symbol_of, opcode_of, act_of}
-use Rattle.ir_words.specs.Words.{Words, one, is_first, behind}
+use Rattle.ir_words.specs.Words.{Words, one, is_first, after_first}
 use Rattle.ir_words.specs.Reading.{ty_at, kind_at}
 use Rattle.ir_forms.specs.Operands.{labelled_at}
 use Rattle.ir_forms.specs.Grammar.{read}
 use Rattle.ir_forms.specs.Forms.{line_of, form, value_line, plain_line, act_line, choices, choice}
-use Rattle.ir_line.specs.Calls.{symbol_from, call_behind, call_for, call}
+use Rattle.ir_line.specs.Calls.{symbol_from, call_after, call_for, call}
 use Rattle.ir_forms.proofs.Steps.{nothing, clash, bind_then, cond_then, choose_then, bytes_is, first_is}
 
--- what a call begins with, behind the name of its result
+-- what a call begins with, after the name of its result
 data Begins : Words → Type 0 where
   Plain : (n : ℕ) (rest : Words) → symbol_from 0 0 rest ≡ Some n → Begins (codes "call" ∷ rest)
   Tailed : (rest : Words) → Begins (codes "tail" ∷ codes "call" ∷ rest)
@@ -21,10 +21,10 @@ data Begins : Words → Type 0 where
 
 -- a call in which so many words stand before `call`
 abbrev call_at : List ℕ → Option (List ℕ) → List Token → ℕ → Option Line
-call_at line x ts n = cond (is_first (codes "call") (words line (drop n ts))) (call_behind line x (take n ts) (drop 1 (drop n ts))) None
+call_at line x ts n = cond (is_first (codes "call") (words line (drop n ts))) (call_after line x (take n ts) (drop 1 (drop n ts))) None
 
 plain_begins : (line : List ℕ) (x : Option (List ℕ)) (t : Token) (us : List Token) (l : Line) → call_at line x (t ∷ us) 0 ≡ Some l → Begins (word line t ∷ words line us)
-unfolding call_behind
+unfolding call_after
 plain_begins line x t us l e =
     cond_then (bytes_eq (word line t) (codes "call")) _ _ _ e
     (λ same r. bind_then (symbol_from 0 0 (words line us)) _ l r (λ n en _.
@@ -37,7 +37,7 @@ tailed_begins v line x t us l k same e =
     cond_then (is_first (codes "call") (words line us)) _ _ _ e
     (λ first _.
     subst (λ (w : List ℕ). Begins (w ∷ words line us)) (sym (bytes_is (word line t) v same))
-    (subst (λ (ws : Words). Begins (v ∷ ws)) (sym (first_is (codes "call") (words line us) first)) (k (behind (words line us)))))
+    (subst (λ (ws : Words). Begins (v ∷ ws)) (sym (first_is (codes "call") (words line us) first)) (k (after_first (words line us)))))
     (λ _ none. nothing none)
 
 call_for_begins : (line : List ℕ) (x : Option (List ℕ)) (ts : List Token) (l : Line) → call_for line x ts ≡ Some l → Begins (words line ts)
@@ -49,7 +49,7 @@ call_for_begins line x (t ∷ us) l e = here (bytes_eq (word line t) (codes "tai
   here false true ea eb r = tailed_begins (codes "notail") line x t us l Untailed eb r
   here false false ea eb r = plain_begins line x t us l r
 
--- behind `%x =` such words are no form
+-- after `%x =` such words are no form
 
 value_none : (x : List ℕ) (ts : Words) → Begins ts → read line_of (value_line x) (codes "=" ∷ ts) ≡ None
 unfolding value_line opcode_of

@@ -6,6 +6,7 @@ pub mod CallArguments
 pub mod CallLines
 pub mod MarkedLines
 pub mod OutsideLines
+pub mod Parameters
 pub mod Returns
 pub mod SoundForms
 pub mod SoundLines

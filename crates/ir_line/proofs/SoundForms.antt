@@ -21,7 +21,7 @@ use Rattle.ir_words.specs.declared.flags.FlagSet.TheVariants.{Plain, Wrap, Exact
 use Rattle.ir_draft.specs.declared.written.Written.{Written}
 use Rattle.ir_draft.specs.declared.written.Arg.{Arg}
 use Rattle.ir_forms.specs.declared.pairs.Incoming.{Incoming}
-use Rattle.ir_words.specs.Kinds.{fits, bits_of, is_cast}
+use Rattle.ir_words.specs.Kinds.{fits, is_cast}
 use Rattle.ir_words.specs.Words.{Words}
 use Rattle.ir_words.specs.Values.{width_of}
 use Rattle.ir_words.specs.Reading.{has, allows, length_of, item_of, is_row}
@@ -44,7 +44,7 @@ operand v (Literal ls ts rest s) = (refl, lanes_fit v s)
 pub kind_value : {k : Kind} {t : Ty} {ts rest : Words} → SpellsKind k t ts rest → is_value t ≡ true
 kind_value s = ty_value s.spelled
 
--- what an operand behind its type is
+-- what an operand after its type is
 pub record Fine (k : Kind) (a : Arg) : Type 0 where
   pub value : is_value a.ty ≡ true
   pub fitting : fits k a.ty ≡ true
@@ -94,17 +94,17 @@ narrower a b e = grind (arith, nat_tests)
 pub converts : (op : CastOp) (fs : Words) (u t : Ty) → list_all (allows (cast_flags op)) fs ≡ true → is_value u ≡ true → is_value t ≡ true → fits (cast_kind op u) t ≡ true →
     (t ≡ with_width (lane_width t) u) × (is_number u ≡ true) × (is_number t ≡ true) × Converts op (has (codes "nneg") fs) (lane_width u) (lane_width t)
 converts Zext fs u t h v w f =
-    let b : (is_cast u t ≡ true) × (nat_lt (bits_of u) (bits_of t) ≡ true) = both_true (is_cast u t) (nat_lt (bits_of u) (bits_of t)) f in
-    let c : (is_number u ≡ true) × (is_number t ≡ true) × (t ≡ with_width (lane_width t) u) × (bits_of u ≡ lane_width u) × (bits_of t ≡ lane_width t) = types.cast u t v w b.0 in
-    (c.2, c.0, c.1, rw (sym c.3, sym c.4) (narrower (bits_of u) (bits_of t) b.1))
+    let b : (is_cast u t ≡ true) × (nat_lt (lane_width u) (lane_width t) ≡ true) = both_true (is_cast u t) (nat_lt (lane_width u) (lane_width t)) f in
+    let c : (is_number u ≡ true) × (is_number t ≡ true) × (t ≡ with_width (lane_width t) u) = types.cast u t v w b.0 in
+    (c.2, c.0, c.1, narrower (lane_width u) (lane_width t) b.1)
 converts Sext fs u t h v w f =
-    let b : (is_cast u t ≡ true) × (nat_lt (bits_of u) (bits_of t) ≡ true) = both_true (is_cast u t) (nat_lt (bits_of u) (bits_of t)) f in
-    let c : (is_number u ≡ true) × (is_number t ≡ true) × (t ≡ with_width (lane_width t) u) × (bits_of u ≡ lane_width u) × (bits_of t ≡ lane_width t) = types.cast u t v w b.0 in
-    (c.2, c.0, c.1, (rw (sym c.3, sym c.4) (narrower (bits_of u) (bits_of t) b.1), lacks Plain (codes "nneg") fs h refl))
+    let b : (is_cast u t ≡ true) × (nat_lt (lane_width u) (lane_width t) ≡ true) = both_true (is_cast u t) (nat_lt (lane_width u) (lane_width t)) f in
+    let c : (is_number u ≡ true) × (is_number t ≡ true) × (t ≡ with_width (lane_width t) u) = types.cast u t v w b.0 in
+    (c.2, c.0, c.1, (narrower (lane_width u) (lane_width t) b.1, lacks Plain (codes "nneg") fs h refl))
 converts Trunc fs u t h v w f =
-    let b : (is_cast u t ≡ true) × (nat_lt (bits_of t) (bits_of u) ≡ true) = both_true (is_cast u t) (nat_lt (bits_of t) (bits_of u)) f in
-    let c : (is_number u ≡ true) × (is_number t ≡ true) × (t ≡ with_width (lane_width t) u) × (bits_of u ≡ lane_width u) × (bits_of t ≡ lane_width t) = types.cast u t v w b.0 in
-    (c.2, c.0, c.1, (rw (sym c.3, sym c.4) (narrower (bits_of t) (bits_of u) b.1), lacks Wrap (codes "nneg") fs h refl))
+    let b : (is_cast u t ≡ true) × (nat_lt (lane_width t) (lane_width u) ≡ true) = both_true (is_cast u t) (nat_lt (lane_width t) (lane_width u)) f in
+    let c : (is_number u ≡ true) × (is_number t ≡ true) × (t ≡ with_width (lane_width t) u) = types.cast u t v w b.0 in
+    (c.2, c.0, c.1, (narrower (lane_width t) (lane_width u) b.1, lacks Wrap (codes "nneg") fs h refl))
 
 -- a comparison gives truth values
 pub truth : (t : Ty) → is_number t ≡ true → truth_of t ≡ with_width 1 t

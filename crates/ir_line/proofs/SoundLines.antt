@@ -5,11 +5,11 @@ use Rattle.std.proofs.lemmas.List.Elements.{All-nil, All-cons}
 use Rattle.ir_lex.specs.declared.list.Token.{Token}
 use Rattle.ir_types.specs.declared.ty.Ty.{Ty}
 use Rattle.ir_types.specs.declared.ty.Ty.TheVariants.{Void, Int, Ptr, Row}
+use Rattle.ir_types.proofs.SameTypes.{same_is}
 use Rattle.ir_types.specs.Typed.{is_width, is_vector, is_number, is_value, lane_width, with_width, Converts}
 use Rattle.ir_words.specs.declared.kinds.Kind.TheVariants as kind
 use Rattle.ir_draft.specs.declared.written.Arg.{Arg}
 use Rattle.ir_draft.specs.declared.line.Line.{Line}
-use Rattle.ir_words.specs.Kinds.{bits_of}
 use Rattle.ir_words.specs.Words.{Words}
 use Rattle.ir_words.specs.Reading.{has}
 use Rattle.ir_line.specs.declared.calls.Arguments.{Arguments}
@@ -65,7 +65,7 @@ sound_form (Label name) ts h = tt
 sound_form (Choice t n b) ts h =
     let k : is_value t ≡ true = forms.kind_value h.1 in
     let i : (w : ℕ) × (t ≡ Int w) × (is_width w ≡ true) = types.integer t k h.1.fitting in
-    record { width = i.0; number = n; profile = i.2; type = i.1; lanes = refl; below = subst (λ w. n < 2 ^ w) (ap bits_of i.1) (number_below (bits_of t) n h.2.1.word h.2.1.says) }
+    record { width = i.0; number = n; profile = i.2; type = i.1; lanes = refl; below = subst (λ w. n < 2 ^ w) (ap lane_width i.1) (number_below (lane_width t) n h.2.1.word h.2.1.says) }
 sound_form ChoicesEnd ts h = tt
 sound_form (Binary x op fs t a b) ts h =
     let v : is_value t ≡ true = forms.kind_value h.2.2.2.2.1 in
@@ -91,7 +91,7 @@ sound_form (Select x c a b) ts h =
     let f : Fine kind.Choice c = forms.typed h.2.2.2.1 in
     let g : Fine (kind.ChosenBy c.ty) a = forms.also _ h.2.2.2.2.1 in
     let k : Fine (kind.Same a.ty) b = forms.also _ h.2.2.2.2.2.1 in
-    let same : b.ty ≡ a.ty = types.same_is b.ty a.ty k.fitting in
+    let same : b.ty ≡ a.ty = same_is b.ty a.ty k.fitting in
     record {
       literals = three c a b f.literal g.literal k.literal;
       typed = (c.ty, g.value, types.chosen c.ty a.ty f.value g.value f.fitting g.fitting, ap (λ t. Some c.ty ∷ Some a.ty ∷ Some t ∷ []) same);
@@ -104,7 +104,7 @@ sound_form (Extract x a i) ts h =
     let j : (w : ℕ) × (i.ty ≡ Int w) × (is_width w ≡ true) = integer_of i g in
     record {
       literals = two a i f.literal g.literal;
-      typed = (r.0, r.1, j.0, r.3, j.2, ap (λ t. Int (bits_of t)) r.2, types_2 _ _ _ _ r.2 j.1);
+      typed = (r.0, r.1, j.0, r.3, j.2, ap (λ t. Int (lane_width t)) r.2, types_2 _ _ _ _ r.2 j.1);
       places = tt;
     }
 sound_form (Insert x a b i) ts h =
@@ -112,17 +112,17 @@ sound_form (Insert x a b i) ts h =
     let e : Fine (kind.LaneOf a.ty) b = forms.also _ h.2.2.2.2.1 in
     let g : Fine kind.Integer i = forms.also _ h.2.2.2.2.2.1 in
     let r : (n w : ℕ) × (a.ty ≡ Row n w) × (is_vector (Row n w) ≡ true) = vector_of a f in
-    let l : b.ty ≡ Int (bits_of a.ty) = types.lane_of a.ty b.ty e.fitting in
+    let l : b.ty ≡ Int (lane_width a.ty) = types.lane_of a.ty b.ty e.fitting in
     let j : (w : ℕ) × (i.ty ≡ Int w) × (is_width w ≡ true) = integer_of i g in
     record {
       literals = three a b i f.literal e.literal g.literal;
-      typed = (r.0, r.1, j.0, r.3, j.2, r.2, types_3 _ _ _ _ _ _ r.2 (l ∙ ap (λ t. Int (bits_of t)) r.2) j.1);
+      typed = (r.0, r.1, j.0, r.3, j.2, r.2, types_3 _ _ _ _ _ _ r.2 (l ∙ ap (λ t. Int (lane_width t)) r.2) j.1);
       places = tt;
     }
 sound_form (Shuffle x a b m) ts h =
     let f : Fine kind.Vector a = forms.typed h.2.2.2.1 in
     let e : Fine (kind.Same a.ty) b = forms.also _ h.2.2.2.2.1 in
-    let same : b.ty ≡ a.ty = types.same_is b.ty a.ty e.fitting in
+    let same : b.ty ≡ a.ty = same_is b.ty a.ty e.fitting in
     let r : (n w : ℕ) × (a.ty ≡ Row n w) × (is_vector (Row n w) ≡ true) = vector_of a f in
     let s : Shuffled r.0 r.1 m = forms.masked_at r.0 r.1 (types.row_width r.0 r.1 r.3) r.2 h.2.2.2.2.2.1 in
     record {

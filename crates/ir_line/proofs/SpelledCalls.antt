@@ -11,7 +11,7 @@ use Rattle.ir_words.specs.Words.{Words, one, is_first}
 use Rattle.ir_forms.specs.Pieces.{Says}
 use Rattle.ir_line.specs.declared.calls.Arguments.{Arguments}
 use Rattle.ir_line.specs.Headers.{depth_after, ty_len, ret_of}
-use Rattle.ir_line.specs.Calls.{symbol_from, arguments_at, may_follow, names_result, called, call_behind, tail_len, tail_of, behind_tail, call_for, call}
+use Rattle.ir_line.specs.Calls.{symbol_from, arguments_at, may_follow, names_result, called, call_after, tail_len, tail_of, after_tail, call_for, call}
 use Rattle.ir_line.specs.CallSpelling.{SpellsResult, Unnamed, Named, SpellsTail, Untold, Tail, NoTail, SpellsRet, are_unnamed, SpellsInside, SpellsCall}
 use Rattle.ir_forms.proofs.Steps.{nothing, clash, some_is, bind_then, when_then, cond_then, choose_then, both_true, not_true, bytes_is, one_says, says_one}
 use Rattle.ir_line.proofs.CallArguments.{inside_spelled, inside_read}
@@ -19,7 +19,7 @@ use Rattle.ir_line.proofs.Returns.{words_append, ret_is, ret_reads, ret_size, En
 
 -- ---- the callee
 
--- a plain symbol stands behind so many words that name none
+-- a plain symbol stands after so many words that name none
 record NamedAt (d : ℕ) (ws : Words) (from n : ℕ) : Type 0 where
   count : ℕ
   is : n ≡ from + count
@@ -52,18 +52,18 @@ symbol_found from d n (t ∷ ts) e =
       unnamed = rw (or_none (nat_eq d 0) (is_some (symbol_of t)) (bytes_eq t (codes ")")) other no_close) next.unnamed;
     }))
 
-symbol_behind : (from d : ℕ) (ws : Words) (s : List ℕ) (name : List ℕ) (rest : Words) → are_unnamed d ws ≡ true → symbol_of s ≡ Some name → symbol_from from d (ws ++ s ∷ rest) ≡ Some (from + length ws)
-symbol_behind from d [] s name rest e says = let same : from ≡ from + 0 = omega arith in rw (e, says) (ap Some same)
-symbol_behind from d (t ∷ ts) s name rest e says =
+symbol_after : (from d : ℕ) (ws : Words) (s : List ℕ) (name : List ℕ) (rest : Words) → are_unnamed d ws ≡ true → symbol_of s ≡ Some name → symbol_from from d (ws ++ s ∷ rest) ≡ Some (from + length ws)
+symbol_after from d [] s name rest e says = let same : from ≡ from + 0 = omega arith in rw (e, says) (ap Some same)
+symbol_after from d (t ∷ ts) s name rest e says =
     let p : (not (nat_eq d 0 && (is_some (symbol_of t) || bytes_eq t (codes ")"))) ≡ true) × (are_unnamed (depth_after d t) ts ≡ true) = both_true (not (nat_eq d 0 && (is_some (symbol_of t) || bytes_eq t (codes ")")))) _ e in
     let q : (nat_eq d 0 && is_some (symbol_of t) ≡ false) × (nat_eq d 0 && bytes_eq t (codes ")") ≡ false) = none_or (nat_eq d 0) (is_some (symbol_of t)) (bytes_eq t (codes ")")) p.0 in
     let same : from + 1 + length ts ≡ from + suc (length ts) = omega arith in
-    rw (q.0, q.1) (symbol_behind (from + 1) (depth_after d t) ts s name rest p.1 says ∙ ap Some same)
+    rw (q.0, q.1) (symbol_after (from + 1) (depth_after d t) ts s name rest p.1 says ∙ ap Some same)
 
--- ---- behind the word `call`
+-- ---- after the word `call`
 
--- the parts behind the word `call`, for a name and a TAIL
-record Behind (line : List ℕ) (name : Option (List ℕ)) (tail ts : List Token) (l : Line) : Type 0 where
+-- the parts after the word `call`, for a name and a TAIL
+record After (line : List ℕ) (name : Option (List ℕ)) (tail ts : List Token) (l : Line) : Type 0 where
   ret : Ty
   callee : List ℕ
   found : Arguments
@@ -121,9 +121,9 @@ ret_found line t ts e =
       spelled = subst (SpellsRet t) (drop-map (word line) end.front ts) end.spelled;
     }
 
-behind_spelled : (line : List ℕ) (x : Option (List ℕ)) (tail ts : List Token) (l : Line) → call_behind line x tail ts ≡ Some l → Behind line x tail ts l
-unfolding call_behind
-behind_spelled line x tail ts l e =
+after_spelled : (line : List ℕ) (x : Option (List ℕ)) (tail ts : List Token) (l : Line) → call_after line x tail ts ≡ Some l → After line x tail ts l
+unfolding call_after
+after_spelled line x tail ts l e =
     bind_then (symbol_from 0 0 (words line ts)) _ l e (λ n en e1.
     bind_then (one symbol_of (words line (drop n ts))) _ l e1 (λ f ef e2.
     bind_then (ret_of line (take n ts)) _ l e2 (λ t et e3.
@@ -165,16 +165,16 @@ behind_spelled line x tail ts l e =
     shorter (suc k) (suc n) [] l = refl
     shorter (suc k) (suc n) (u ∷ us) l = ap (λ (z : List Token). u ∷ z) (shorter k n us (omega (arith, l)))
 
-behind_read : (line : List ℕ) (x : Option (List ℕ)) (tail ts : List Token) (l : Line) → Behind line x tail ts l → call_behind line x tail ts ≡ Some l
-unfolding call_behind
-behind_read line x tail ts l b =
+after_read : (line : List ℕ) (x : Option (List ℕ)) (tail ts : List Token) (l : Line) → After line x tail ts l → call_after line x tail ts ≡ Some l
+unfolding call_after
+after_read line x tail ts l b =
     let front : List Token = b.pre ++ b.type in
     let rest : List Token = b.symbol ∷ b.paren ∷ b.inside in
     let k : ℕ = length front in
     let all_words : words line ts ≡ words line front ++ (word line b.symbol ∷ words line (b.paren ∷ b.inside)) = ap (words line) b.whole ∙ words_append line front rest in
     let count : 0 + length (words line front) ≡ k = omega (arith, length-map front (word line)) in
     let found : symbol_from 0 0 (words line ts) ≡ Some k =
-    ap (symbol_from 0 0) all_words ∙ symbol_behind 0 0 (words line front) (word line b.symbol) b.callee (words line (b.paren ∷ b.inside)) b.unnamed b.named ∙ ap Some count in
+    ap (symbol_from 0 0) all_words ∙ symbol_after 0 0 (words line front) (word line b.symbol) b.callee (words line (b.paren ∷ b.inside)) b.unnamed b.named ∙ ap Some count in
     let back : drop k ts ≡ rest = ap (drop k) b.whole ∙ drop-append_seam front rest in
     let first : take k ts ≡ front = ap (take k) b.whole ∙ take-append_seam front rest in
     let returned : ret_of line (take k ts) ≡ Some b.ret = ap (ret_of line) first ∙ ret_reads line b.ret b.pre b.type b.returned in
@@ -183,9 +183,9 @@ behind_read line x tail ts l b =
     let arguments : arguments_at line (b.paren ∷ b.inside) ≡ Some (b.found, b.post) = inside_read b.arguments b.paren b.opens in
     rw (found, back, b.named, returned, arguments, b.gives, b.follows, kept) (ap Some (sym b.is))
 
--- ---- behind the name of the result
+-- ---- after the name of the result
 
--- a TAIL with `call` behind it, and the rest
+-- a TAIL with `call` after it, and the rest
 record For (line : List ℕ) (name : Option (List ℕ)) (ts : List Token) (l : Line) : Type 0 where
   tail : List Token
   call : Token
@@ -193,16 +193,16 @@ record For (line : List ℕ) (name : Option (List ℕ)) (ts : List Token) (l : L
   whole : ts ≡ tail ++ call ∷ rest
   tailed : SpellsTail line tail
   calls : word line call ≡ codes "call"
-  behind : Behind line name tail rest l
+  after : After line name tail rest l
 
 -- so many words of TAIL
-for_at : (line : List ℕ) (x : Option (List ℕ)) (n : ℕ) (ts : List Token) (l : Line) → SpellsTail line (take n ts) → cond (is_first (codes "call") (words line (drop n ts))) (call_behind line x (take n ts) (drop 1 (drop n ts))) None ≡ Some l → For line x ts l
+for_at : (line : List ℕ) (x : Option (List ℕ)) (n : ℕ) (ts : List Token) (l : Line) → SpellsTail line (take n ts) → cond (is_first (codes "call") (words line (drop n ts))) (call_after line x (take n ts) (drop 1 (drop n ts))) None ≡ Some l → For line x ts l
 for_at line x n ts l tailed e =
     cond_then (is_first (codes "call") (words line (drop n ts))) _ _ _ e
     (λ first r. here (drop n ts) refl first r)
     (λ _ none. nothing none)
   where
-    here : (us : List Token) → drop n ts ≡ us → is_first (codes "call") (words line (drop n ts)) ≡ true → call_behind line x (take n ts) (drop 1 (drop n ts)) ≡ Some l → For line x ts l
+    here : (us : List Token) → drop n ts ≡ us → is_first (codes "call") (words line (drop n ts)) ≡ true → call_after line x (take n ts) (drop 1 (drop n ts)) ≡ Some l → For line x ts l
     here [] eu first r = clash (sym (ap (λ (z : List Token). is_first (codes "call") (words line z)) (sym eu) ∙ first))
     here (c ∷ us) eu first r = record {
       tail = take n ts;
@@ -211,7 +211,7 @@ for_at line x n ts l tailed e =
       whole = sym (take-append-drop n ts) ∙ ap (λ (z : List Token). take n ts ++ z) eu;
       tailed = tailed;
       calls = bytes_is (word line c) (codes "call") (ap (λ (z : List Token). is_first (codes "call") (words line z)) (sym eu) ∙ first);
-      behind = behind_spelled line x (take n ts) us l (ap (λ (z : List Token). call_behind line x (take n ts) (drop 1 z)) (sym eu) ∙ r);
+      after = after_spelled line x (take n ts) us l (ap (λ (z : List Token). call_after line x (take n ts) (drop 1 z)) (sym eu) ∙ r);
     }
 
 for_spelled : (line : List ℕ) (x : Option (List ℕ)) (ts : List Token) (l : Line) → call_for line x ts ≡ Some l → For line x ts l
@@ -219,58 +219,58 @@ unfolding call_for
 for_spelled line x [] l e = nothing e
 for_spelled line x (t ∷ ts) l e = here (bytes_eq (word line t) (codes "tail")) (bytes_eq (word line t) (codes "notail")) refl refl e where
   here : (a b : Bool) → bytes_eq (word line t) (codes "tail") ≡ a → bytes_eq (word line t) (codes "notail") ≡ b →
-      cond (is_first (codes "call") (words line (drop (cond (a || b) 1 0) (t ∷ ts)))) (call_behind line x (take (cond (a || b) 1 0) (t ∷ ts)) (drop 1 (drop (cond (a || b) 1 0) (t ∷ ts)))) None ≡ Some l → For line x (t ∷ ts) l
+      cond (is_first (codes "call") (words line (drop (cond (a || b) 1 0) (t ∷ ts)))) (call_after line x (take (cond (a || b) 1 0) (t ∷ ts)) (drop 1 (drop (cond (a || b) 1 0) (t ∷ ts)))) None ≡ Some l → For line x (t ∷ ts) l
   here true b ea eb r = for_at line x 1 (t ∷ ts) l (Tail t (bytes_is (word line t) (codes "tail") ea)) r
   here false true ea eb r = for_at line x 1 (t ∷ ts) l (NoTail t (bytes_is (word line t) (codes "notail") eb)) r
   here false false ea eb r = for_at line x 0 (t ∷ ts) l Untold r
 
--- so many words of TAIL, with `call` behind them
+-- so many words of TAIL, with `call` after them
 for_words : (line : List ℕ) (x : Option (List ℕ)) (n : ℕ) (ts tail : List Token) (c : Token) (rest : List Token) (l : Line) → tail_len (words line ts) ≡ n → take n ts ≡ tail → drop n ts ≡ c ∷ rest → word line c ≡ codes "call" →
-    call_behind line x tail rest ≡ Some l → call_for line x ts ≡ Some l
+    call_after line x tail rest ≡ Some l → call_for line x ts ≡ Some l
 unfolding call_for
 for_words line x n ts tail c rest l size own back calls e =
-    ap (λ (k : ℕ). cond (is_first (codes "call") (words line (drop k ts))) (call_behind line x (take k ts) (drop 1 (drop k ts))) None) size
-    ∙ ap (λ (us : List Token). cond (is_first (codes "call") (words line us)) (call_behind line x (take n ts) (drop 1 us)) None) back
-    ∙ ap (λ (us : List Token). cond (bytes_eq (word line c) (codes "call")) (call_behind line x us rest) None) own
-    ∙ ap (λ (w : List ℕ). cond (bytes_eq w (codes "call")) (call_behind line x tail rest) None) calls
+    ap (λ (k : ℕ). cond (is_first (codes "call") (words line (drop k ts))) (call_after line x (take k ts) (drop 1 (drop k ts))) None) size
+    ∙ ap (λ (us : List Token). cond (is_first (codes "call") (words line us)) (call_after line x (take n ts) (drop 1 us)) None) back
+    ∙ ap (λ (us : List Token). cond (bytes_eq (word line c) (codes "call")) (call_after line x us rest) None) own
+    ∙ ap (λ (w : List ℕ). cond (bytes_eq w (codes "call")) (call_after line x tail rest) None) calls
     ∙ e
 
 for_read : (line : List ℕ) (x : Option (List ℕ)) (ts : List Token) (l : Line) → For line x ts l → call_for line x ts ≡ Some l
-for_read line x ts l f = ap (call_for line x) f.whole ∙ here f.tail f.tailed f.behind where
-  here : (tail : List Token) → SpellsTail line tail → Behind line x tail f.rest l → call_for line x (tail ++ f.call ∷ f.rest) ≡ Some l
-  here _ Untold b = for_words line x 0 (f.call ∷ f.rest) [] f.call f.rest l (rw f.calls refl) refl refl f.calls (behind_read line x [] f.rest l b)
-  here _ (Tail t w) b = for_words line x 1 (t ∷ f.call ∷ f.rest) (t ∷ []) f.call f.rest l (rw w refl) refl refl f.calls (behind_read line x (t ∷ []) f.rest l b)
-  here _ (NoTail t w) b = for_words line x 1 (t ∷ f.call ∷ f.rest) (t ∷ []) f.call f.rest l (rw w refl) refl refl f.calls (behind_read line x (t ∷ []) f.rest l b)
+for_read line x ts l f = ap (call_for line x) f.whole ∙ here f.tail f.tailed f.after where
+  here : (tail : List Token) → SpellsTail line tail → After line x tail f.rest l → call_for line x (tail ++ f.call ∷ f.rest) ≡ Some l
+  here _ Untold b = for_words line x 0 (f.call ∷ f.rest) [] f.call f.rest l (rw f.calls refl) refl refl f.calls (after_read line x [] f.rest l b)
+  here _ (Tail t w) b = for_words line x 1 (t ∷ f.call ∷ f.rest) (t ∷ []) f.call f.rest l (rw w refl) refl refl f.calls (after_read line x (t ∷ []) f.rest l b)
+  here _ (NoTail t w) b = for_words line x 1 (t ∷ f.call ∷ f.rest) (t ∷ []) f.call f.rest l (rw w refl) refl refl f.calls (after_read line x (t ∷ []) f.rest l b)
 
 -- ---- the whole
 
 spelled_of : (line : List ℕ) (x : Option (List ℕ)) (front ts : List Token) (l : Line) → SpellsResult line x front → For line x ts l → SpellsCall line (front ++ ts) l
 spelled_of line x front ts l r f = record {
   name = x;
-  ret = f.behind.ret;
-  callee = f.behind.callee;
-  found = f.behind.found;
+  ret = f.after.ret;
+  callee = f.after.callee;
+  found = f.after.found;
   front = front;
   tail = f.tail;
   call = f.call;
-  pre = f.behind.pre;
-  type = f.behind.type;
-  symbol = f.behind.symbol;
-  paren = f.behind.paren;
-  inside = f.behind.inside;
-  post = f.behind.post;
-  whole = ap (λ (z : List Token). front ++ z) (f.whole ∙ ap (λ (z : List Token). f.tail ++ f.call ∷ z) f.behind.whole);
+  pre = f.after.pre;
+  type = f.after.type;
+  symbol = f.after.symbol;
+  paren = f.after.paren;
+  inside = f.after.inside;
+  post = f.after.post;
+  whole = ap (λ (z : List Token). front ++ z) (f.whole ∙ ap (λ (z : List Token). f.tail ++ f.call ∷ z) f.after.whole);
   result = r;
   tailed = f.tailed;
   calls = f.calls;
-  unnamed = f.behind.unnamed;
-  returned = f.behind.returned;
-  named = f.behind.named;
-  opens = f.behind.opens;
-  arguments = f.behind.arguments;
-  gives = f.behind.gives;
-  follows = f.behind.follows;
-  is = f.behind.is;
+  unnamed = f.after.unnamed;
+  returned = f.after.returned;
+  named = f.after.named;
+  opens = f.after.opens;
+  arguments = f.after.arguments;
+  gives = f.after.gives;
+  follows = f.after.follows;
+  is = f.after.is;
 }
 
 pub call_spelled : (line : List ℕ) (ts : List Token) (l : Line) → call line ts ≡ Some l → SpellsCall line ts l
@@ -296,7 +296,7 @@ for_of s = record {
   whole = refl;
   tailed = s.tailed;
   calls = s.calls;
-  behind = record {
+  after = record {
     ret = s.ret;
     callee = s.callee;
     found = s.found;

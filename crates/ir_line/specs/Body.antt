@@ -35,7 +35,7 @@ pub data Spells (line : List ℕ) (ts : List Token) : Line → Type 0 where
   NoWord : ts ≡ [] → Spells line ts Empty
   -- `}` alone
   Brace : words line ts ≡ codes "}" ∷ [] → Spells line ts Close
-  -- a form of parts, in words of ASCII, behind which attachments may stand
+  -- a form of parts, in words of ASCII, after which attachments may stand
   Formed : (f : Form) → list_all is_ascii (words line ts) ≡ true → Spell (slots f) (words line (unattached line ts)) → Spells line ts (line_of f)
   -- a call, the same
   Called : (l : Line) → list_all is_ascii (words line ts) ≡ true → SpellsCall line (unattached line ts) l → Spells line ts l

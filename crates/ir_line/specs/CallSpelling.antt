@@ -31,7 +31,7 @@ pub data SpellsRet : Ty → Words → Type 0 where
   NoValue : SpellsRet Void (codes "void" ∷ [])
   Valued : (t : Ty) (ts : Words) → SpellsTy t ts [] → SpellsRet t ts
 
--- whether these words, with d parentheses open before them, are outside parentheses behind them, and none of them is a plain symbol outside
+-- whether these words, with d parentheses open before them, are outside parentheses after them, and none of them is a plain symbol outside
 -- parentheses or a `)` without its `(`
 abbrev pub are_unnamed : ℕ → Words → Bool
 are_unnamed d [] = nat_eq d 0
@@ -54,14 +54,14 @@ pub record SpellsArgument (line : List ℕ) (a : Arg × List ℕ) (ts : List Tok
   pub attributes : are_attributes (words line kept) ≡ true
   pub text : a.1 ≡ span line kept
 
--- arguments joined by commas, with the `)` behind them, and what follows
+-- arguments joined by commas, with the `)` after them, and what follows
 pub data SpellsArguments (line : List ℕ) : Arguments → List Token → List Token → Type 0 where
   LastArgument : (a : Arg × List ℕ) (own : List Token) (close : Token) (rest : List Token) → SpellsArgument line a own → word line close ≡ codes ")" →
       ends_by 0 0 (words line own) (codes ")") ≡ true → SpellsArguments line (one_argument a) (own ++ close ∷ rest) rest
   MoreArguments : (a : Arg × List ℕ) (i : Arguments) (own : List Token) (comma : Token) (us rest : List Token) → SpellsArgument line a own → word line comma ≡ codes "," →
       ends_by 0 0 (words line own) (codes ",") ≡ true → SpellsArguments line i us rest → SpellsArguments line (record { args = a.0 ∷ i.args; attrs = a.1 ∷ i.attrs }) (own ++ comma ∷ us) rest
 
--- what stands behind the `(`, up to the `)`, and what follows
+-- what stands after the `(`, up to the `)`, and what follows
 pub data SpellsInside (line : List ℕ) : Arguments → List Token → List Token → Type 0 where
   NoArgument : (close : Token) (rest : List Token) → word line close ≡ codes ")" → SpellsInside line no_arguments (close ∷ rest) rest
   SomeArguments : (i : Arguments) (ts rest : List Token) → SpellsArguments line i ts rest → SpellsInside line i ts rest
@@ -96,7 +96,7 @@ pub record SpellsCall (line : List ℕ) (ts : List Token) (l : Line) : Type 0 wh
   pub follows : may_follow (words line post) ≡ true
   pub is : l ≡ called line name tail pre ret callee found post
 
--- the comma in `range(0, 5)` ends no argument, the one behind it does
+-- the comma in `range(0, 5)` ends no argument, the one after it does
 in_parentheses : ends_by 0 0 (codes "i8" ∷ codes "range" ∷ codes "(" ∷ codes "0" ∷ codes "," ∷ codes "5" ∷ codes ")" ∷ codes "%a" ∷ []) (codes ",") ≡ true
 in_parentheses = refl
 

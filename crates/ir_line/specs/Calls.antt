@@ -12,6 +12,7 @@ use Rattle.ir_types.specs.declared.ty.Ty.TheVariants.{Void, Int}
 use Rattle.ir_types.specs.declared.op.Op.TheVariants as ops
 use Rattle.ir_draft.specs.declared.written.Written.{Written}
 use Rattle.ir_draft.specs.declared.written.Written.TheVariants.{Lit}
+use Rattle.ir_types.specs.declared.call_site.CallSite.{CallSite}
 use Rattle.ir_draft.specs.declared.written.Arg.{Arg}
 use Rattle.ir_line.specs.declared.calls.Arguments.{Arguments}
 use Rattle.ir_draft.specs.declared.line.Line.{Line}
@@ -34,11 +35,11 @@ symbol_from n d (t ∷ ts) =
 
 -- one argument
 
--- how many `<` are open behind a word, where d parentheses and so many `<` are open before it; inside parentheses they do not count
+-- how many `<` are open after a word, where d parentheses and so many `<` are open before it; inside parentheses they do not count
 abbrev pub angles_after : ℕ → ℕ → List ℕ → ℕ
 angles_after d a t = cond (nat_eq d 0 && bytes_eq t (codes "<")) (a + 1) (cond (nat_eq d 0 && bytes_eq t (codes ">")) (a - 1) a)
 
--- whether a word ends an argument, where d parentheses and a `<` are open: a comma outside of both, or the `)` behind all arguments
+-- whether a word ends an argument, where d parentheses and a `<` are open: a comma outside of both, or the `)` after all arguments
 abbrev pub ends_argument : ℕ → ℕ → List ℕ → Bool
 ends_argument d a t = nat_eq d 0 && (bytes_eq t (codes ")") || nat_eq a 0 && bytes_eq t (codes ","))
 
@@ -50,8 +51,8 @@ argument_len d a (t ∷ ts) = cond (ends_argument d a t) 0 (suc (argument_len (d
 abbrev pub argument_at : List ℕ → List Token → List Token
 argument_at line ts = take (argument_len 0 0 (words line ts)) ts
 
-abbrev pub behind_argument : List ℕ → List Token → List Token
-behind_argument line ts = drop (argument_len 0 0 (words line ts)) ts
+abbrev pub after_argument : List ℕ → List Token → List Token
+after_argument line ts = drop (argument_len 0 0 (words line ts)) ts
 
 -- an operand that is all of the words
 abbrev pub whole_operand : Option (Written × Words) → Option Written
@@ -59,7 +60,7 @@ whole_operand None = None
 whole_operand (Some (o, [])) = Some o
 whole_operand (Some (o, w ∷ ws)) = None
 
--- the longest end of these words that is one operand of the type, behind the number of words before it, n of them before these
+-- the longest end of these words that is one operand of the type, after the number of words before it, n of them before these
 abbrev pub operand_from : Ty → ℕ → Words → Option (ℕ × Written)
 operand_from t n [] = None
 operand_from t n (w ∷ ws) = choose (whole_operand (operand_at t (w ∷ ws))) (λ o. Some (n, o)) (operand_from t (n + 1) ws)
@@ -68,7 +69,7 @@ operand_from t n (w ∷ ws) = choose (whole_operand (operand_at t (w ∷ ws))) (
 abbrev pub are_attributes : Words → Bool
 are_attributes ts = nat_eq (attrs_len 0 ts) (length ts) && not (is_banned ts)
 
--- an argument behind its type, with its attributes
+-- an argument after its type, with its attributes
 unfoldable pub argument_of : List ℕ → Ty → List Token → Option (Arg × List ℕ)
 argument_of line t ts = do
   o ← operand_from t 0 (words line ts)
@@ -94,13 +95,13 @@ with_arguments i read = read >>= (λ x. Some (record { args = i.args ++ x.0.args
 abbrev pub closed_arguments : List ℕ → Arguments → List Token → Option (Arguments × List Token)
 closed_arguments line i ts = cond (is_first (codes ")") (words line ts)) (Some (i, drop 1 ts)) None
 
--- arguments joined by commas, with the `)` behind them; the tokens `bound` only count
+-- arguments joined by commas, with the `)` after them; the tokens `bound` only count
 abbrev pub arguments_within : List Token → List ℕ → List Token → Option (Arguments × List Token)
 arguments_within [] line ts = None
 arguments_within (_ ∷ bound) line ts = argument line (argument_at line ts) >>= (λ a.
-    cond (is_first (codes ",") (words line (behind_argument line ts)))
-    (with_arguments (one_argument a) (arguments_within bound line (drop 1 (behind_argument line ts))))
-    (closed_arguments line (one_argument a) (behind_argument line ts)))
+    cond (is_first (codes ",") (words line (after_argument line ts)))
+    (with_arguments (one_argument a) (arguments_within bound line (drop 1 (after_argument line ts))))
+    (closed_arguments line (one_argument a) (after_argument line ts)))
 
 -- the arguments with the parentheses around them
 unfoldable pub arguments_at : List ℕ → List Token → Option (Arguments × List Token)
@@ -109,7 +110,7 @@ arguments_at line ts =
     (cond (is_first (codes ")") (words line (drop 1 ts))) (Some (no_arguments, drop 2 ts)) (arguments_within (drop 1 ts) line (drop 1 ts)))
     None
 
--- what stands behind the arguments
+-- what stands after the arguments
 
 -- whether each parenthesis has its mate, d more of them being open before
 abbrev pub is_balanced : ℕ → Words → Bool
@@ -127,19 +128,17 @@ abbrev pub names_result : Option (List ℕ) → Ty → Bool
 names_result x Void = not (is_some x)
 names_result x _ = is_some x
 
+-- a call of its parts
+abbrev pub call_line : Option (List ℕ) → Ty → CallSite → List Arg → Line
+call_line x t site args = lines.Stmt (record { result = x; ty = t; op = ops.Call site; args = args; labels = [] })
+
 -- a call of its parts: the tokens of TAIL and PRE, what is called, and the tokens of POST
 abbrev pub called : List ℕ → Option (List ℕ) → List Token → List Token → Ty → List ℕ → Arguments → List Token → Line
-called line x tail pre t callee i post = lines.Stmt (record {
-  result = x;
-  ty = t;
-  op = ops.Call (record { tail = span line tail; pre = span line pre; callee = callee; attrs = i.attrs; post = span line post });
-  args = i.args;
-  labels = [];
-})
+called line x tail pre t callee i post = call_line x t (record { tail = span line tail; pre = span line pre; callee = callee; attrs = i.attrs; post = span line post }) i.args
 
--- a call by the tokens behind the word `call`
-unfoldable pub call_behind : List ℕ → Option (List ℕ) → List Token → List Token → Option Line
-call_behind line x tail ts = do
+-- a call by the tokens after the word `call`
+unfoldable pub call_after : List ℕ → Option (List ℕ) → List Token → List Token → Option Line
+call_after line x tail ts = do
   n ← symbol_from 0 0 (words line ts)
   f ← one symbol_of (words line (drop n ts))
   t ← ret_of line (take n ts)
@@ -153,12 +152,12 @@ tail_len ts = cond (is_first (codes "tail") ts || is_first (codes "notail") ts) 
 abbrev pub tail_of : List ℕ → List Token → List Token
 tail_of line ts = take (tail_len (words line ts)) ts
 
-abbrev pub behind_tail : List ℕ → List Token → List Token
-behind_tail line ts = drop (tail_len (words line ts)) ts
+abbrev pub after_tail : List ℕ → List Token → List Token
+after_tail line ts = drop (tail_len (words line ts)) ts
 
--- a call behind the name of its result
+-- a call after the name of its result
 unfoldable pub call_for : List ℕ → Option (List ℕ) → List Token → Option Line
-call_for line x ts = cond (is_first (codes "call") (words line (behind_tail line ts))) (call_behind line x (tail_of line ts) (drop 1 (behind_tail line ts))) None
+call_for line x ts = cond (is_first (codes "call") (words line (after_tail line ts))) (call_after line x (tail_of line ts) (drop 1 (after_tail line ts))) None
 
 -- the call that all of these tokens are
 unfoldable pub call : List ℕ → List Token → Option Line
@@ -174,7 +173,7 @@ plain = codes "call void @k()"
 
 -- the parts that are absent are empty
 plain_call : call plain (cut plain) ≡ Some (lines.Stmt (record { result = None; ty = Void; op = ops.Call (record { tail = []; pre = []; callee = codes "k"; attrs = []; post = [] }); args = []; labels = [] }))
-unfolding cut string_len name_len more_len begins_name is_word_byte is_digit is_sigil is_mark is_blank word local_of named symbol_of ret_of arguments_at call_behind call_for call
+unfolding cut string_len name_len more_len begins_name is_word_byte is_digit is_sigil is_mark is_blank word local_of named symbol_of ret_of arguments_at call_after call_for call
 plain_call = refl
 
 -- a value is named
@@ -182,7 +181,7 @@ abbrev unnamed : List ℕ
 unnamed = codes "call i8 @f()"
 
 unnamed_call : call unnamed (cut unnamed) ≡ None
-unfolding cut string_len name_len more_len begins_name is_word_byte is_digit is_sigil is_mark is_blank word local_of named symbol_of width_of ty_at ret_of arguments_at call_behind call_for call
+unfolding cut string_len name_len more_len begins_name is_word_byte is_digit is_sigil is_mark is_blank word local_of named symbol_of width_of ty_at ret_of arguments_at call_after call_for call
 unnamed_call = refl
 
 -- `i8 range(0, 5) %a` is eight words, and `<i8 1, i8 2>` seven

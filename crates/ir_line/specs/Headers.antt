@@ -49,16 +49,16 @@ ty_len _ = 1
 abbrev pub attrs_of : List ℕ → List Token → List Token
 attrs_of line ts = take (attrs_len 0 (words line ts)) ts
 
-abbrev pub behind_attrs : List ℕ → List Token → List Token
-behind_attrs line ts = drop (attrs_len 0 (words line ts)) ts
+abbrev pub after_attrs : List ℕ → List Token → List Token
+after_attrs line ts = drop (attrs_len 0 (words line ts)) ts
 
 -- a parameter's name, if one follows
 abbrev pub name_of : Words → Option (List ℕ)
 name_of ts = option_map (λ x. x.0) (one local_of ts)
 
-abbrev pub behind_name : Option (List ℕ) → List Token → List Token
-behind_name None ts = ts
-behind_name (Some name) ts = drop 1 ts
+abbrev pub after_name : Option (List ℕ) → List Token → List Token
+after_name None ts = ts
+after_name (Some name) ts = drop 1 ts
 
 -- a parameter of a type, at a place, with its attributes
 abbrev pub param : List ℕ → ℕ → Ty → List Token → Option (List ℕ) → Param
@@ -70,16 +70,16 @@ param line at t attrs name = record {
   noalias = stands (codes "noalias") 0 (words line attrs);
 }
 
--- a parameter behind its type, and what follows
+-- a parameter after its type, and what follows
 unfoldable pub attributed : List ℕ → ℕ → Ty → List Token → Option (Param × List Token)
 attributed line at t ts =
     cond (is_banned (words line (attrs_of line ts))) None
-    (Some (param line at t (attrs_of line ts) (name_of (words line (behind_attrs line ts))), behind_name (name_of (words line (behind_attrs line ts))) (behind_attrs line ts)))
+    (Some (param line at t (attrs_of line ts) (name_of (words line (after_attrs line ts))), after_name (name_of (words line (after_attrs line ts))) (after_attrs line ts)))
 
 unfoldable pub param_at : List ℕ → ℕ → List Token → Option (Param × List Token)
 param_at line at ts = ty_at (words line ts) >>= (λ t. attributed line at t.0 (drop (ty_len t.0) ts))
 
--- parameters joined by commas, with the `)` behind them; the tokens `bound` only count
+-- parameters joined by commas, with the `)` after them; the tokens `bound` only count
 abbrev pub with_params : List Param → Option (List Param × List Token) → Option (List Param × List Token)
 with_params ps read = read >>= (λ x. Some (ps ++ x.0, x.1))
 
@@ -94,7 +94,7 @@ params_within (_ ∷ bound) line at ts = param_at line at ts >>= (λ p.
 unfoldable pub params_at : List ℕ → List Token → Option (List Param × List Token)
 params_at line ts = cond (is_first (codes ")") (words line ts)) (Some ([], drop 1 ts)) (params_within ts line 0 ts)
 
--- whether a word is the function's name: a plain one outside parentheses that has `(` behind it
+-- whether a word is the function's name: a plain one outside parentheses that has `(` after it
 abbrev pub is_callee : ℕ → List ℕ → Words → Bool
 is_callee d t ts = nat_eq d 0 && is_some (symbol_of t) && is_first (codes "(") ts
 

@@ -5,7 +5,7 @@ use Rattle.ir_lex.specs.Bytes.{begins_name}
 use Rattle.ir_types.specs.HeaderWords as header_words
 use Rattle.ir_draft.specs.declared.kept.Kept.{Kept}
 use Rattle.ir_words.specs.Values.{symbol_of, is_some}
-use Rattle.ir_words.specs.Words.{Words, is_first, behind}
+use Rattle.ir_words.specs.Words.{Words, is_first, after_first}
 use Rattle.ir_words.specs.Reading.{has}
 use Rattle.ir_words.specs.Layout.{any_big, any_other, string_of}
 
@@ -18,7 +18,7 @@ is_name (b ∷ bs) = begins_name b
 abbrev pub is_digits : List ℕ → Bool
 is_digits = header_words.is_digits
 
--- nothing, a name or a number: what stands behind the `!` of metadata
+-- nothing, a name or a number: what stands after the `!` of metadata
 abbrev pub is_metadata : List ℕ → Bool
 is_metadata [] = true
 is_metadata (b ∷ bs) = begins_name b || is_digits (b ∷ bs)
@@ -28,7 +28,7 @@ abbrev pub is_symbol : List ℕ → Bool
 is_symbol [] = false
 is_symbol (b ∷ bs) = true
 
--- whether a line of which this is the first word, and `=` stands behind it or not, is kept
+-- whether a line of which this is the first word, and `=` stands after it or not, is kept
 unfoldable pub keeps_mark : ℕ → List ℕ → Bool → Bool
 keeps_mark b bs equals =
     cond (nat_eq b 33) (is_metadata bs)
@@ -77,7 +77,7 @@ is_indirect ts = has (codes "alias") ts || has (codes "ifunc") ts || has (codes 
 
 -- whether a line is of the layout
 abbrev pub is_layout : Words → Bool
-is_layout ts = is_first (codes "target") ts && is_first (codes "datalayout") (behind ts)
+is_layout ts = is_first (codes "target") ts && is_first (codes "datalayout") (after_first ts)
 
 -- what is read of a kept line
 abbrev pub kept_of : List ℕ → Words → Kept

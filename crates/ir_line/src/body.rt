@@ -4,18 +4,17 @@
 
 ghost use Rattle.std.specs.Prelude.{◌≡◌, ◌≤◌, length, bytes_eq, IfOk, IfErr, Option, Some};
 ghost use Rattle.ir_lex.specs.Tokens.{Lexed};
-ghost use Rattle.ir_lex.specs.Words.{words};
+ghost use Rattle.ir_words.specs.Cursors.{left};
 ghost use Rattle.ir_words.specs.Words.{Gives};
 ghost use Rattle.ir_line.specs.Body as body;
 ghost use Rattle.ir_line.specs.Answers.{Answers, IsNumbered};
 ghost use Rattle.ir_draft.specs.declared.line.Line.{Line};
 
 use crate::calls::call;
-use crate::headers::front;
 use ir_draft::{Line, LineRefusal, Stop};
 use ir_forms::act_lines::form;
-use ir_lex::{Token, text};
-use ir_words::words::{all_ascii, is, is_first};
+use ir_lex::Token;
+use ir_words::cursor::{Cursor, same_word};
 use memchr::memchr;
 use std::alloc::Global;
 
@@ -27,35 +26,33 @@ fn is_mark(word: &[u8]) -> bool
 }
 
 /// Whether the first word does.
-fn begins_mark(line: &[u8], tokens: &[Token]) -> bool
-    ensures { result ≡ body.begins_mark (words line.now tokens.now) }
+fn begins_mark(at: Cursor) -> bool
+    ensures { result ≡ body.begins_mark (left at.entry) }
 {
-    match tokens {
-        [] => false,
-        [token, ..] => is_mark(text(line, *token)),
+    match at.split_first() {
+        None => false,
+        Some((word, _)) => is_mark(word),
     }
 }
 
 /// How many words stand before the first attachment. Most lines have no `!` at all, and then no word is looked at.
-fn attachment_at(line: &[u8], tokens: &[Token]) -> usize
-    ensures value { result ≡ body.attachment_at (words line.now tokens.now) }
-    ensures within { result ≤ length tokens.now }
+fn attachment_at(at: Cursor) -> usize
+    ensures { result ≡ body.attachment_at (left at.entry) }
 {
-    match memchr(b'!', line) {
-        None => tokens.len(),
-        Some(_) => marked_at(line, tokens),
+    match memchr(b'!', at.line) {
+        None => at.tokens.len(),
+        Some(_) => marked_at(at),
     }
 }
 
 /// The same, word by word.
-fn marked_at(line: &[u8], tokens: &[Token]) -> usize
-    ensures value { result ≡ body.attachment_at (words line.now tokens.now) }
-    ensures within { result ≤ length tokens.now }
+fn marked_at(at: Cursor) -> usize
+    ensures { result ≡ body.attachment_at (left at.entry) }
 {
     let mut count = 0;
-    let mut rest = tokens;
-    'each: while let [token, after @ ..] = rest {
-        if is(text(line, *token), b",") && begins_mark(line, after) {
+    let mut rest = at;
+    'each: while let Some((word, after)) = rest.split_first() {
+        if same_word(word, b",") && begins_mark(after) {
             return count;
         }
         count += 1;
@@ -65,53 +62,53 @@ fn marked_at(line: &[u8], tokens: &[Token]) -> usize
 }
 
 /// The tokens before the attachments.
-fn unattached<'a>(line: &'a [u8], tokens: &'a [Token]) -> &'a [Token]
-    ensures { result.now ≡ body.unattached line.now tokens.now }
+fn unattached<'a>(at: Cursor<'a>) -> Cursor<'a>
+    ensures line { result.line.now ≡ at.entry.line.now }
+    ensures tokens { result.tokens.now ≡ body.unattached at.entry.line.now at.entry.tokens.now }
 {
-    front(tokens, attachment_at(line, tokens))
+    at.front(attachment_at(at))
 }
 
 /// A line without attachments: a form of parts, or a call.
-fn form_or_call(alloc: Global, line: &[u8], tokens: &[Token]) -> Result<Line, Stop>
-    ensures { Gives (λ x. x) result (body.form_or_call line.now tokens.now) }
+fn form_or_call(alloc: Global, at: Cursor) -> Result<Line, Stop>
+    ensures { Gives (λ x. x) result (body.form_or_call at.entry.line.now at.entry.tokens.now) }
 {
-    match form(alloc, line, tokens) {
-        Ok(found) => Ok(found),
-        Err(Stop::NotALine) => call(alloc, line, tokens),
-        Err(Stop::OutOfMemory) => Err(Stop::OutOfMemory),
+    match form(alloc, at) {
+        Err(Stop::NotALine) => call(alloc, at),
+        found => found,
     }
 }
 
 /// A line that is neither empty nor a brace.
 #[tactic(auto, unfolding(crate::specs::Body::read_form))]
-fn read_form(alloc: Global, line: &[u8], tokens: &[Token]) -> Result<Line, Stop>
-    ensures { Gives (λ x. x) result (body.read_form line.now tokens.now) }
+fn read_form(alloc: Global, at: Cursor) -> Result<Line, Stop>
+    ensures { Gives (λ x. x) result (body.read_form at.entry.line.now at.entry.tokens.now) }
 {
-    if !all_ascii(line, tokens) {
+    if !at.all_ascii() {
         return Err(Stop::NotALine);
     }
-    form_or_call(alloc, line, unattached(line, tokens))
+    form_or_call(alloc, unattached(at))
 }
 
 /// Whether the line is a brace alone.
-fn is_brace(line: &[u8], tokens: &[Token]) -> bool
-    ensures { result ≡ body.is_brace (words line.now tokens.now) }
+fn is_brace(at: Cursor) -> bool
+    ensures { result ≡ body.is_brace (left at.entry) }
 {
-    match tokens {
-        [token] => is(text(line, *token), b"}"),
-        _ => false,
+    match at.split_first() {
+        Some((word, rest)) => rest.tokens.is_empty() && same_word(word, b"}"),
+        None => false,
     }
 }
 
 /// A line inside a function.
 #[tactic(auto, unfolding(crate::specs::Body::read_body))]
-fn read_body(alloc: Global, line: &[u8], tokens: &[Token]) -> Result<Line, Stop>
-    ensures { Gives (λ x. x) result (body.read_body line.now tokens.now) }
+fn read_body(alloc: Global, at: Cursor) -> Result<Line, Stop>
+    ensures { Gives (λ x. x) result (body.read_body at.entry.line.now at.entry.tokens.now) }
 {
-    match tokens {
+    match at.tokens {
         [] => Ok(Line::Empty),
-        _ if is_brace(line, tokens) => Ok(Line::Close),
-        _ => read_form(alloc, line, tokens),
+        _ if is_brace(at) => Ok(Line::Close),
+        _ => read_form(alloc, at),
     }
 }
 
@@ -141,5 +138,5 @@ pub fn body_line(alloc: Global, line: &[u8], t: &[Token], number: u32) -> Result
     ensures only { (l : Line) → body.Spells line.now t.now l → Answers result (Some l) }
     ensures number { IfErr result (IsNumbered number) }
 {
-    numbered(read_body(alloc, line, t), number)
+    numbered(read_body(alloc, Cursor { line, tokens: t }), number)
 }

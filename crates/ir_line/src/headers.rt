@@ -2,8 +2,8 @@
 //!
 //! The entry point is `header`, which gives none where the header is outside the profile. Want of memory is its only failure.
 
-ghost use Rattle.std.specs.Prelude.{◌≡◌, ◌≤◌, ◌<◌, ◌-◌, ◌^◌, [], Some, Option, option_map, length, take, drop};
-ghost use Rattle.ir_lex.specs.Words.{words};
+ghost use Rattle.std.specs.Prelude.{◌≡◌, ◌≤◌, ◌<◌, ◌-◌, ◌^◌, Some, option_map, IfOk};
+ghost use Rattle.ir_words.specs.Cursors.{left};
 ghost use Rattle.ir_words.specs.Words.{Gives, one};
 ghost use Rattle.ir_words.specs.Values as values;
 ghost use Rattle.ir_words.specs.Reading as reading;
@@ -14,30 +14,10 @@ use ir_draft::{Head, Stop};
 use ir_forms::operands::local;
 use ir_lex::{Token, text};
 use ir_types::{Bytes, Id, Param, Params, Ty};
+use ir_words::cursor::{Cursor, same_word};
 use ir_words::types::ty;
 use ir_words::values::{copied, is_plain, symbol_of};
-use ir_words::words::{all_ascii, is, is_first, next};
 use std::alloc::Global;
-
-/// What is left behind so many tokens.
-pub(crate) fn skip<'a>(tokens: &'a [Token], count: usize) -> &'a [Token]
-    ensures { result.now ≡ drop count tokens.now }
-{
-    if count > tokens.len() {
-        return &[];
-    }
-    tokens.split_at(count).1
-}
-
-/// So many tokens at the front.
-pub(crate) fn front<'a>(tokens: &'a [Token], count: usize) -> &'a [Token]
-    ensures { result.now ≡ take count tokens.now }
-{
-    if count > tokens.len() {
-        return tokens;
-    }
-    tokens.split_at(count).0
-}
 
 /// Where the last of the tokens ends; `to` where there is none.
 fn last_to(to: u32, tokens: &[Token]) -> u32
@@ -53,29 +33,29 @@ fn last_to(to: u32, tokens: &[Token]) -> u32
 }
 
 /// The bytes from the first to the last of the tokens.
-pub(crate) fn span(alloc: Global, line: &[u8], tokens: &[Token]) -> Result<Bytes, Stop>
-    ensures { Gives (λ x. x) result (Some (headers.span line.now tokens.now)) }
+pub(crate) fn span(alloc: Global, at: Cursor) -> Result<Bytes, Stop>
+    ensures { Gives (λ x. x) result (Some (headers.span at.entry.line.now at.entry.tokens.now)) }
 {
-    match tokens {
+    match at.tokens {
         [] => Ok(Bytes::new(alloc)),
         [token, rest @ ..] => {
             let whole = Token {
                 from: token.from,
                 to: last_to(token.to, rest),
             };
-            Ok(copied(alloc, text(line, whole))?)
+            Ok(copied(alloc, text(at.line, whole))?)
         }
     }
 }
 
-/// How many parentheses are open behind a word.
+/// How many parentheses are open after a word.
 pub(crate) fn depth_after(depth: usize, word: &[u8]) -> usize
     requires { depth < 2 ^ 64 - 1 }
     ensures { result ≡ headers.depth_after depth word.now }
 {
-    if is(word, b"(") {
+    if same_word(word, b"(") {
         depth + 1
-    } else if is(word, b")") {
+    } else if same_word(word, b")") {
         depth.saturating_sub(1)
     } else {
         depth
@@ -99,19 +79,17 @@ fn is_attribute(word: &[u8]) -> bool
 fn goes_on(depth: usize, word: &[u8]) -> bool
     ensures { result ≡ headers.goes_on depth word.now }
 {
-    depth != 0 || is_attribute(word) || is(word, b"(")
+    depth != 0 || is_attribute(word) || same_word(word, b"(")
 }
 
 /// How many words of attributes stand at the front.
-pub(crate) fn attrs_len(line: &[u8], tokens: &[Token]) -> usize
-    ensures value { result ≡ headers.attrs_len 0 (words line.now tokens.now) }
-    ensures within { result ≤ length tokens.now }
+pub(crate) fn attrs_len(at: Cursor) -> usize
+    ensures { result ≡ headers.attrs_len 0 (left at.entry) }
 {
     let mut count = 0;
     let mut depth = 0;
-    let mut rest = tokens;
-    'each: while let [token, after @ ..] = rest {
-        let word = text(line, *token);
+    let mut rest = at;
+    'each: while let Some((word, after)) = rest.split_first() {
         if !goes_on(depth, word) {
             return count;
         }
@@ -123,14 +101,13 @@ pub(crate) fn attrs_len(line: &[u8], tokens: &[Token]) -> usize
 }
 
 /// Whether the word stands outside parentheses.
-fn stands(line: &[u8], tokens: &[Token], wanted: &[u8]) -> bool
-    ensures { result ≡ headers.stands wanted.now 0 (words line.now tokens.now) }
+fn stands(at: Cursor, wanted: &[u8]) -> bool
+    ensures { result ≡ headers.stands wanted.now 0 (left at.entry) }
 {
     let mut depth = 0;
-    let mut rest = tokens;
-    'each: while let [token, after @ ..] = rest {
-        let word = text(line, *token);
-        if depth == 0 && is(word, wanted) {
+    let mut rest = at;
+    'each: while let Some((word, after)) = rest.split_first() {
+        if depth == 0 && same_word(word, wanted) {
             return true;
         }
         depth = depth_after(depth, word);
@@ -140,16 +117,16 @@ fn stands(line: &[u8], tokens: &[Token], wanted: &[u8]) -> bool
 }
 
 /// Whether attributes put a header outside the profile.
-pub(crate) fn is_banned(line: &[u8], tokens: &[Token]) -> bool
-    ensures { result ≡ headers.is_banned (words line.now tokens.now) }
+pub(crate) fn is_banned(at: Cursor) -> bool
+    ensures { result ≡ headers.is_banned (left at.entry) }
 {
-    stands(line, tokens, b"byval")
-        || stands(line, tokens, b"sret")
-        || stands(line, tokens, b"inalloca")
-        || stands(line, tokens, b"preallocated")
-        || stands(line, tokens, b"inreg")
-        || stands(line, tokens, b"nest")
-        || stands(line, tokens, b"addrspace")
+    stands(at, b"byval")
+        || stands(at, b"sret")
+        || stands(at, b"inalloca")
+        || stands(at, b"preallocated")
+        || stands(at, b"inreg")
+        || stands(at, b"nest")
+        || stands(at, b"addrspace")
 }
 
 /// How many words a type has.
@@ -163,155 +140,147 @@ pub(crate) fn ty_len(ty: Ty) -> usize
 }
 
 /// A parameter's name, if one follows.
-fn name_of(alloc: Global, line: &[u8], tokens: &[Token]) -> Result<Option<Bytes>, Stop>
-    ensures { Gives (λ x. x) result (Some (headers.name_of (words line.now tokens.now))) }
+fn name_of(alloc: Global, at: Cursor) -> Result<Option<Bytes>, Stop>
+    ensures { Gives (λ x. x) result (Some (headers.name_of (left at.entry))) }
 {
-    match local(alloc, line, tokens) {
-        Ok((name, _)) => Ok(Some(name)),
+    match local(alloc, at) {
         Err(Stop::NotALine) => Ok(None),
-        Err(Stop::OutOfMemory) => Err(Stop::OutOfMemory),
+        found => {
+            let (name, _) = found?;
+            Ok(Some(name))
+        }
     }
 }
 
-/// What is left behind a name, if there is one.
-fn behind_name<'a>(name: &Option<Bytes>, tokens: &'a [Token]) -> &'a [Token]
-    ensures { result.now ≡ headers.behind_name name.now tokens.now }
+/// What is left after a name, if there is one.
+fn after_name<'a>(name: &Option<Bytes>, at: Cursor<'a>) -> Cursor<'a>
+    ensures line { result.line.now ≡ at.entry.line.now }
+    ensures tokens { result.tokens.now ≡ headers.after_name name.now at.entry.tokens.now }
 {
     match name {
-        None => tokens,
-        Some(_) => skip(tokens, 1),
+        None => at,
+        Some(_) => at.skip(1),
     }
 }
 
 /// A parameter of its parts.
 fn param(
     alloc: Global,
-    line: &[u8],
-    at: u32,
+    place: u32,
     ty: Ty,
-    attrs: &[Token],
+    attrs: Cursor,
     name: Option<Bytes>,
 ) -> Result<Param, Stop>
-    ensures { Gives (λ x. x) result (Some (headers.param line.now at ty attrs.now name)) }
+    ensures { Gives (λ x. x) result (Some (headers.param attrs.entry.line.now place ty attrs.entry.tokens.now name)) }
 {
     Ok(Param {
-        id: Id { region: 0, k: at },
+        id: Id {
+            region: 0,
+            k: place,
+        },
         name,
         ty,
-        attrs: span(alloc, line, attrs)?,
-        noalias: stands(line, attrs, b"noalias"),
+        attrs: span(alloc, attrs)?,
+        noalias: stands(attrs, b"noalias"),
     })
 }
 
-/// A parameter behind its type.
+/// A parameter after its type.
 #[tactic(auto, unfolding(crate::specs::Headers::attributed))]
 fn attributed<'a>(
     alloc: Global,
-    line: &'a [u8],
-    at: u32,
+    place: u32,
     ty: Ty,
-    tokens: &'a [Token],
-) -> Result<(Param, &'a [Token]), Stop>
-    ensures { Gives (λ x. (x.0, x.1.now)) result (headers.attributed line.now at ty tokens.now) }
+    at: Cursor<'a>,
+) -> Result<(Param, Cursor<'a>), Stop>
+    ensures read { Gives (λ x. (x.0, x.1.tokens.now)) result (headers.attributed at.entry.line.now place ty at.entry.tokens.now) }
+    ensures line { IfOk result (λ x. x.1.line.now ≡ at.entry.line.now) }
 {
-    let (attrs, rest) = tokens.split_at(attrs_len(line, tokens));
-    if is_banned(line, attrs) {
+    let count = attrs_len(at);
+    let (attrs, rest) = (at.front(count), at.skip(count));
+    if is_banned(attrs) {
         return Err(Stop::NotALine);
     }
-    let name = name_of(alloc, line, rest)?;
-    let rest = behind_name(&name, rest);
-    Ok((param(alloc, line, at, ty, attrs, name)?, rest))
+    let name = name_of(alloc, rest)?;
+    let rest = after_name(&name, rest);
+    Ok((param(alloc, place, ty, attrs, name)?, rest))
 }
 
 /// A parameter.
 #[tactic(auto, unfolding(crate::specs::Headers::param_at))]
-fn param_at<'a>(
-    alloc: Global,
-    line: &'a [u8],
-    at: u32,
-    tokens: &'a [Token],
-) -> Result<(Param, &'a [Token]), Stop>
-    ensures { Gives (λ x. (x.0, x.1.now)) result (headers.param_at line.now at tokens.now) }
+fn param_at<'a>(alloc: Global, place: u32, at: Cursor<'a>) -> Result<(Param, Cursor<'a>), Stop>
+    ensures read { Gives (λ x. (x.0, x.1.tokens.now)) result (headers.param_at at.entry.line.now place at.entry.tokens.now) }
+    ensures line { IfOk result (λ x. x.1.line.now ≡ at.entry.line.now) }
 {
-    let (ty, _) = ty(line, tokens)?;
-    attributed(alloc, line, at, ty, skip(tokens, ty_len(ty)))
+    let (ty, _) = ty(at)?;
+    attributed(alloc, place, ty, at.skip(ty_len(ty)))
 }
 
 /// The parameters, where they close here.
-fn closed<'a>(
-    line: &'a [u8],
-    params: Params,
-    tokens: &'a [Token],
-) -> Result<(Params, &'a [Token]), Stop>
-    ensures { Gives (λ x. (x.0, x.1.now)) result (headers.closed line.now params tokens.now) }
+fn closed<'a>(params: Params, at: Cursor<'a>) -> Result<(Params, Cursor<'a>), Stop>
+    ensures read { Gives (λ x. (x.0, x.1.tokens.now)) result (headers.closed at.entry.line.now params at.entry.tokens.now) }
+    ensures line { IfOk result (λ x. x.1.line.now ≡ at.entry.line.now) }
 {
-    if is_first(line, tokens, b")") {
-        Ok((params, skip(tokens, 1)))
+    if at.begins(b")") {
+        Ok((params, at.skip(1)))
     } else {
         Err(Stop::NotALine)
     }
 }
 
 /// Parameters joined by commas.
-fn params_within<'a>(
-    alloc: Global,
-    line: &'a [u8],
-    tokens: &'a [Token],
-) -> Result<(Params, &'a [Token]), Stop>
-    ensures { Gives (λ x. (x.0, x.1.now)) result (headers.params_within tokens.now line.now 0 tokens.now) }
+fn params_within<'a>(alloc: Global, at: Cursor<'a>) -> Result<(Params, Cursor<'a>), Stop>
+    ensures read { Gives (λ x. (x.0, x.1.tokens.now)) result (headers.params_within at.entry.tokens.now at.entry.line.now 0 at.entry.tokens.now) }
+    ensures line { IfOk result (λ x. x.1.line.now ≡ at.entry.line.now) }
 {
     let mut found = Params::new(alloc);
-    let mut rest = tokens;
-    let mut at: u32 = 0;
-    let mut bound = tokens;
+    let mut rest = at;
+    let mut place: u32 = 0;
+    let mut bound = at.tokens;
     'each: while let [_, fewer @ ..] = bound {
         bound = fewer;
-        let (param, after) = param_at(alloc, line, at, rest)?;
+        let (param, after) = param_at(alloc, place, rest)?;
         found.push(param)?;
-        if !is_first(line, after, b",") {
-            return closed(line, found, after);
+        if !after.begins(b",") {
+            return closed(found, after);
         }
-        rest = skip(after, 1);
-        at = at.checked_add(1).ok_or(Stop::OutOfMemory)?;
+        rest = after.skip(1);
+        place = place.checked_add(1).ok_or(Stop::OutOfMemory)?;
     }
     Err(Stop::NotALine)
 }
 
-/// The parameters behind their `(`.
+/// The parameters after their `(`.
 #[tactic(auto, unfolding(crate::specs::Headers::params_at))]
-fn params_at<'a>(
-    alloc: Global,
-    line: &'a [u8],
-    tokens: &'a [Token],
-) -> Result<(Params, &'a [Token]), Stop>
-    ensures { Gives (λ x. (x.0, x.1.now)) result (headers.params_at line.now tokens.now) }
+fn params_at<'a>(alloc: Global, at: Cursor<'a>) -> Result<(Params, Cursor<'a>), Stop>
+    ensures read { Gives (λ x. (x.0, x.1.tokens.now)) result (headers.params_at at.entry.line.now at.entry.tokens.now) }
+    ensures line { IfOk result (λ x. x.1.line.now ≡ at.entry.line.now) }
 {
-    if is_first(line, tokens, b")") {
-        return Ok((Params::new(alloc), skip(tokens, 1)));
+    if at.begins(b")") {
+        return Ok((Params::new(alloc), at.skip(1)));
     }
-    params_within(alloc, line, tokens)
+    params_within(alloc, at)
 }
 
 /// Whether the word is the function's name.
-fn is_callee(depth: usize, line: &[u8], word: &[u8], rest: &[Token]) -> bool
-    ensures { result ≡ headers.is_callee depth word.now (words line.now rest.now) }
+fn is_callee(depth: usize, word: &[u8], after: Cursor) -> bool
+    ensures { result ≡ headers.is_callee depth word.now (left after.entry) }
 {
-    depth == 0 && is_plain(word) && is_first(line, rest, b"(")
+    depth == 0 && is_plain(word) && after.begins(b"(")
 }
 
 /// How many words stand before the function's name, if there is one.
-fn name_from(line: &[u8], tokens: &[Token]) -> Option<usize>
-    ensures { result ≡ headers.name_from 0 0 (words line.now tokens.now) }
+fn name_from(at: Cursor) -> Option<usize>
+    ensures { result ≡ headers.name_from 0 0 (left at.entry) }
 {
     let mut count = 0;
     let mut depth = 0;
-    let mut rest = tokens;
-    'each: while let [token, after @ ..] = rest {
-        let word = text(line, *token);
-        if is_callee(depth, line, word, after) {
+    let mut rest = at;
+    'each: while let Some((word, after)) = rest.split_first() {
+        if is_callee(depth, word, after) {
             return Some(count);
         }
-        if depth == 0 && is(word, b")") {
+        if depth == 0 && same_word(word, b")") {
             return None;
         }
         depth = depth_after(depth, word);
@@ -321,57 +290,59 @@ fn name_from(line: &[u8], tokens: &[Token]) -> Option<usize>
     None
 }
 
-/// So many tokens at the end.
-fn last_tokens<'a>(tokens: &'a [Token], count: usize) -> &'a [Token]
-    ensures { result.now ≡ headers.last_tokens count tokens.now }
+/// So many words at the end.
+fn last_words<'a>(at: Cursor<'a>, count: usize) -> Cursor<'a>
+    ensures line { result.line.now ≡ at.entry.line.now }
+    ensures tokens { result.tokens.now ≡ headers.last_tokens count at.entry.tokens.now }
 {
-    skip(tokens, tokens.len().saturating_sub(count))
+    at.skip(at.tokens.len().saturating_sub(count))
 }
 
 /// A type that is all of these words.
-fn whole(line: &[u8], tokens: &[Token]) -> Result<Ty, Stop>
-    ensures { Gives (λ x. x) result (headers.whole (reading.ty_at (words line.now tokens.now))) }
+fn whole(at: Cursor) -> Result<Ty, Stop>
+    ensures { Gives (λ x. x) result (headers.whole (reading.ty_at (left at.entry))) }
 {
-    match ty(line, tokens)? {
-        (ty, []) => Ok(ty),
-        _ => Err(Stop::NotALine),
+    let (ty, rest) = ty(at)?;
+    if !rest.tokens.is_empty() {
+        return Err(Stop::NotALine);
     }
+    Ok(ty)
 }
 
-/// The type at the end of these tokens.
+/// The type at the end of these words.
 #[tactic(auto, unfolding(crate::specs::Headers::ret_of))]
-pub(crate) fn ret_of(line: &[u8], tokens: &[Token]) -> Result<Ty, Stop>
-    ensures { Gives (λ x. x) result (headers.ret_of line.now tokens.now) }
+pub(crate) fn ret_of(at: Cursor) -> Result<Ty, Stop>
+    ensures { Gives (λ x. x) result (headers.ret_of at.entry.line.now at.entry.tokens.now) }
 {
-    let last = last_tokens(tokens, 1);
-    if is_first(line, last, b"void") {
+    let last = last_words(at, 1);
+    if last.begins(b"void") {
         return Ok(Ty::Void);
     }
-    if is_first(line, last, b">") {
-        return whole(line, last_tokens(tokens, 5));
+    if last.begins(b">") {
+        return whole(last_words(at, 5));
     }
-    whole(line, last)
+    whole(last)
 }
 
 /// The plain name at the front.
-pub(crate) fn callee(alloc: Global, line: &[u8], tokens: &[Token]) -> Result<Bytes, Stop>
-    ensures { Gives (λ x. x) result (option_map (λ x. x.0) (one values.symbol_of (words line.now tokens.now))) }
+pub(crate) fn callee(alloc: Global, at: Cursor) -> Result<Bytes, Stop>
+    ensures { Gives (λ x. x) result (option_map (λ x. x.0) (one values.symbol_of (left at.entry))) }
 {
-    let (word, _) = next(line, tokens)?;
+    let (word, _) = at.next()?;
     symbol_of(alloc, word)
 }
 
-/// A header by the tokens between `define` and the last brace.
+/// A header by the words between `define` and the last brace.
 #[tactic(auto, unfolding(crate::specs::Headers::head_of))]
-fn head_of(alloc: Global, line: &[u8], tokens: &[Token]) -> Result<Head, Stop>
-    ensures { Gives (λ x. x) result (headers.head_of line.now tokens.now) }
+fn head_of(alloc: Global, at: Cursor) -> Result<Head, Stop>
+    ensures { Gives (λ x. x) result (headers.head_of at.entry.line.now at.entry.tokens.now) }
 {
-    let n = name_from(line, tokens).ok_or(Stop::NotALine)?;
-    let name = callee(alloc, line, skip(tokens, n))?;
-    let ret = ret_of(line, front(tokens, n))?;
-    let (params, rest) = params_at(alloc, line, skip(skip(tokens, n), 2))?;
-    let before = span(alloc, line, front(tokens, n.saturating_sub(ty_len(ret))))?;
-    let after = span(alloc, line, rest)?;
+    let n = name_from(at).ok_or(Stop::NotALine)?;
+    let name = callee(alloc, at.skip(n))?;
+    let ret = ret_of(at.front(n))?;
+    let (params, rest) = params_at(alloc, at.skip(n).skip(2))?;
+    let before = span(alloc, at.front(n.saturating_sub(ty_len(ret))))?;
+    let after = span(alloc, rest)?;
     Ok(Head {
         before,
         ret,
@@ -383,26 +354,22 @@ fn head_of(alloc: Global, line: &[u8], tokens: &[Token]) -> Result<Head, Stop>
 
 /// The header of a `define` line, where it is of the profile.
 #[tactic(auto, unfolding(crate::specs::Headers::header))]
-pub(crate) fn header(alloc: Global, line: &[u8], tokens: &[Token]) -> Result<Option<Head>, Stop>
-    ensures { Gives (λ x. x) result (Some (headers.header line.now tokens.now)) }
+pub(crate) fn header(alloc: Global, at: Cursor) -> Result<Option<Head>, Stop>
+    ensures { Gives (λ x. x) result (Some (headers.header at.entry.line.now at.entry.tokens.now)) }
 {
-    if !all_ascii(line, tokens) {
+    if !at.all_ascii() {
         return Ok(None);
     }
-    match head_of(
-        alloc,
-        line,
-        front(skip(tokens, 1), tokens.len().saturating_sub(2)),
-    ) {
-        Ok(head) => Ok(Some(head)),
+    let inner = at.skip(1).front(at.tokens.len().saturating_sub(2));
+    match head_of(alloc, inner) {
         Err(Stop::NotALine) => Ok(None),
-        Err(Stop::OutOfMemory) => Err(Stop::OutOfMemory),
+        found => Ok(Some(found?)),
     }
 }
 
 /// Whether the last token is `{`.
-pub(crate) fn ends_open(line: &[u8], tokens: &[Token]) -> bool
-    ensures { result ≡ headers.ends_open line.now tokens.now }
+pub(crate) fn ends_open(at: Cursor) -> bool
+    ensures { result ≡ headers.ends_open at.entry.line.now at.entry.tokens.now }
 {
-    is_first(line, last_tokens(tokens, 1), b"{")
+    last_words(at, 1).begins(b"{")
 }

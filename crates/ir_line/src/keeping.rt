@@ -4,18 +4,17 @@
 
 ghost use Rattle.std.specs.Prelude.{◌≡◌, Some, nat_eq, reverse};
 ghost use Rattle.std.specs.List.{prefix_len};
-ghost use Rattle.ir_lex.specs.Words.{words};
+ghost use Rattle.ir_words.specs.Cursors.{left};
 ghost use Rattle.ir_line.specs.Keeping as keeping;
 ghost use Rattle.ir_words.specs.Values as values;
 ghost use Rattle.ir_words.specs.Words.{Gives};
 
 use ir_draft::{Kept, Stop};
-use ir_lex::{Token, text};
 use ir_types::Bytes;
+use ir_words::cursor::{Cursor, same_word};
 use ir_words::flags::has;
 use ir_words::layout::{any_big, any_other, string_of};
 use ir_words::values::{all_digits, begins_name, copied, symbol_of};
-use ir_words::words::{behind, is, is_first};
 use std::alloc::Global;
 
 /// Whether bytes are a plain name.
@@ -38,7 +37,7 @@ pub(crate) fn is_digits(bytes: &[u8]) -> bool
     }
 }
 
-/// Whether bytes are what stands behind the `!` of metadata.
+/// Whether bytes are what stands after the `!` of metadata.
 fn is_metadata(bytes: &[u8]) -> bool
     ensures { result ≡ keeping.is_metadata bytes.now }
 {
@@ -73,11 +72,11 @@ fn keeps_mark(first: u8, rest: &[u8], equals: bool) -> bool
 fn keeps_word(word: &[u8]) -> bool
     ensures { result ≡ keeping.keeps_word word.now }
 {
-    is(word, b"source_filename")
-        || is(word, b"target")
-        || is(word, b"declare")
-        || is(word, b"attributes")
-        || is(word, b"module")
+    same_word(word, b"source_filename")
+        || same_word(word, b"target")
+        || same_word(word, b"declare")
+        || same_word(word, b"attributes")
+        || same_word(word, b"module")
 }
 
 /// Whether a line that begins with this word, and `=` or not, is kept for its mark.
@@ -91,15 +90,12 @@ fn keeps_marked(word: &[u8], equals: bool) -> bool
 }
 
 /// Whether a line is kept.
-pub(crate) fn is_kept(line: &[u8], tokens: &[Token]) -> bool
-    ensures { result ≡ keeping.is_kept (words line.now tokens.now) }
+pub(crate) fn is_kept(at: Cursor) -> bool
+    ensures { result ≡ keeping.is_kept (left at.entry) }
 {
-    match tokens {
-        [] => false,
-        [token, rest @ ..] => {
-            let word = text(line, *token);
-            keeps_word(word) || keeps_marked(word, is_first(line, rest, b"="))
-        }
+    match at.split_first() {
+        None => false,
+        Some((word, rest)) => keeps_word(word) || keeps_marked(word, rest.begins(b"=")),
     }
 }
 
@@ -123,33 +119,28 @@ fn plain(alloc: Global, word: &[u8]) -> Result<Option<Bytes>, Stop>
     ensures { Gives (λ x. x) result (Some (values.symbol_of word.now)) }
 {
     match symbol_of(alloc, word) {
-        Ok(name) => Ok(Some(name)),
         Err(Stop::NotALine) => Ok(None),
-        Err(Stop::OutOfMemory) => Err(Stop::OutOfMemory),
+        found => Ok(Some(found?)),
     }
 }
 
 /// The name that a line `@name = ..` has.
-fn defined(alloc: Global, line: &[u8], tokens: &[Token]) -> Result<Option<Bytes>, Stop>
-    ensures { Gives (λ x. x) result (Some (keeping.defined (words line.now tokens.now))) }
+fn defined(alloc: Global, at: Cursor) -> Result<Option<Bytes>, Stop>
+    ensures { Gives (λ x. x) result (Some (keeping.defined (left at.entry))) }
 {
-    match tokens {
-        [token, rest @ ..] if is_first(line, rest, b"=") => plain(alloc, text(line, *token)),
+    match at.split_first() {
+        Some((word, rest)) if rest.begins(b"=") => plain(alloc, word),
         _ => Ok(None),
     }
 }
 
 /// The first plain name of a symbol.
-pub(crate) fn first_symbol(
-    alloc: Global,
-    line: &[u8],
-    tokens: &[Token],
-) -> Result<Option<Bytes>, Stop>
-    ensures { Gives (λ x. x) result (Some (keeping.first_symbol (words line.now tokens.now))) }
+pub(crate) fn first_symbol(alloc: Global, at: Cursor) -> Result<Option<Bytes>, Stop>
+    ensures { Gives (λ x. x) result (Some (keeping.first_symbol (left at.entry))) }
 {
-    let mut rest = tokens;
-    'each: while let [token, after @ ..] = rest {
-        let found = plain(alloc, text(line, *token))?;
+    let mut rest = at;
+    'each: while let Some((word, after)) = rest.split_first() {
+        let found = plain(alloc, word)?;
         if found.is_some() {
             return Ok(found);
         }
@@ -159,42 +150,39 @@ pub(crate) fn first_symbol(
 }
 
 /// The name that a `declare` line declares.
-fn declared(alloc: Global, line: &[u8], tokens: &[Token]) -> Result<Option<Bytes>, Stop>
-    ensures { Gives (λ x. x) result (Some (keeping.declared (words line.now tokens.now))) }
+fn declared(alloc: Global, at: Cursor) -> Result<Option<Bytes>, Stop>
+    ensures { Gives (λ x. x) result (Some (keeping.declared (left at.entry))) }
 {
-    if is_first(line, tokens, b"declare") {
-        return first_symbol(alloc, line, tokens);
+    if at.begins(b"declare") {
+        return first_symbol(alloc, at);
     }
     Ok(None)
 }
 
 /// Whether a symbol is no global of its own.
-fn is_indirect(line: &[u8], tokens: &[Token]) -> bool
-    ensures { result ≡ keeping.is_indirect (words line.now tokens.now) }
+fn is_indirect(at: Cursor) -> bool
+    ensures { result ≡ keeping.is_indirect (left at.entry) }
 {
-    has(line, tokens, b"alias")
-        || has(line, tokens, b"ifunc")
-        || has(line, tokens, b"extern_weak")
-        || has(line, tokens, b"addrspace")
+    has(at, b"alias") || has(at, b"ifunc") || has(at, b"extern_weak") || has(at, b"addrspace")
 }
 
 /// Whether a line is of the layout.
-fn is_layout(line: &[u8], tokens: &[Token]) -> bool
-    ensures { result ≡ keeping.is_layout (words line.now tokens.now) }
+fn is_layout(at: Cursor) -> bool
+    ensures { result ≡ keeping.is_layout (left at.entry) }
 {
-    is_first(line, tokens, b"target") && is_first(line, behind(line, tokens), b"datalayout")
+    at.begins(b"target") && at.after_first().begins(b"datalayout")
 }
 
 /// What is read of a kept line.
-pub(crate) fn kept(alloc: Global, line: &[u8], tokens: &[Token]) -> Result<Kept, Stop>
-    ensures { Gives (λ x. x) result (Some (keeping.kept_of line.now (words line.now tokens.now))) }
+pub(crate) fn kept(alloc: Global, at: Cursor) -> Result<Kept, Stop>
+    ensures { Gives (λ x. x) result (Some (keeping.kept_of at.entry.line.now (left at.entry))) }
 {
-    let text = trimmed(alloc, line)?;
-    let symbol = defined(alloc, line, tokens)?;
-    let declared = declared(alloc, line, tokens)?;
-    let global = symbol.is_some() && !is_indirect(line, tokens);
-    let layout = is_layout(line, tokens);
-    let string = string_of(line, tokens);
+    let text = trimmed(alloc, at.line)?;
+    let symbol = defined(alloc, at)?;
+    let declared = declared(alloc, at)?;
+    let global = symbol.is_some() && !is_indirect(at);
+    let layout = is_layout(at);
+    let string = string_of(at);
     Ok(Kept {
         text,
         symbol,

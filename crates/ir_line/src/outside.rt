@@ -14,30 +14,30 @@ use crate::headers::{ends_open, header};
 use crate::keeping::{first_symbol, is_kept, kept};
 use ir_draft::{Line, LineRefusal, Stop};
 use ir_lex::Token;
-use ir_words::words::is_first;
+use ir_words::cursor::Cursor;
 use std::alloc::Global;
 
 /// Whether a line is the first of a function.
-fn is_define(line: &[u8], tokens: &[Token]) -> bool
-    ensures { result ≡ outside.is_define line.now tokens.now }
+fn is_define(at: Cursor) -> bool
+    ensures { result ≡ outside.is_define at.entry.line.now at.entry.tokens.now }
 {
-    is_first(line, tokens, b"define") && ends_open(line, tokens)
+    at.begins(b"define") && ends_open(at)
 }
 
 /// A line outside functions.
 #[tactic(auto, unfolding(crate::specs::Outside::read_outside))]
-fn read_outside(alloc: Global, line: &[u8], tokens: &[Token]) -> Result<Line, Stop>
-    ensures { Gives (λ x. x) result (outside.read_outside line.now tokens.now) }
+fn read_outside(alloc: Global, at: Cursor) -> Result<Line, Stop>
+    ensures { Gives (λ x. x) result (outside.read_outside at.entry.line.now at.entry.tokens.now) }
 {
-    if tokens.is_empty() {
+    if at.tokens.is_empty() {
         return Ok(Line::Empty);
     }
-    if is_kept(line, tokens) {
-        return Ok(Line::Kept(kept(alloc, line, tokens)?));
+    if is_kept(at) {
+        return Ok(Line::Kept(kept(alloc, at)?));
     }
-    if is_define(line, tokens) {
-        let name = first_symbol(alloc, line, tokens)?;
-        let head = header(alloc, line, tokens)?;
+    if is_define(at) {
+        let name = first_symbol(alloc, at)?;
+        let head = header(alloc, at)?;
         return Ok(Line::Define { name, head });
     }
     Err(Stop::NotALine)
@@ -63,5 +63,5 @@ pub fn module_line(
     ensures only { (l : Line) → outside.Spells line.now t.now l → Answers result (Some l) }
     ensures number { IfErr result (IsNumbered number) }
 {
-    numbered(read_outside(alloc, line, t), number)
+    numbered(read_outside(alloc, Cursor { line, tokens: t }), number)
 }

@@ -7,7 +7,7 @@ pub put-nil : {A : Type 0} (xs : List A) (at : ℕ) → put xs at [] ≡ []
 put-nil [] at = refl
 put-nil (x ∷ xs) at = refl
 
--- what is put behind the first item leaves it
+-- what is put after the first item leaves it
 pub put_further : {A : Type 0} (xs : List A) (n k : ℕ) (y : A) (ys : List A) → n ≡ suc k → put xs n (y ∷ ys) ≡ y ∷ put xs k ys
 put_further [] n k y ys e = refl
 put_further (x ∷ xs) n k y ys e = ap (λ m. put (x ∷ xs) m (y ∷ ys)) e

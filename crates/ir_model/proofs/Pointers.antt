@@ -9,7 +9,7 @@ use Rattle.ir_model.specs.Values.{Pointer, moved}
 pub record IsOffset (z : ℤ) : Type 0 where
   pub fits : FitsSigned w64 z
 
--- two offsets of places, of which the second is k bytes behind the first modulo 2^64, are k apart
+-- two offsets of places, of which the second is k bytes after the first modulo 2^64, are k apart
 pub next_place : (at next k : ℕ) → at < 2 ^ 63 → k < 2 ^ 63 → int_wrap w64 (pos at +ℤ pos k) ≡ pos next → next ≡ at + k
 next_place at next k small less e = let b = back in omega (arith, ints)
   where

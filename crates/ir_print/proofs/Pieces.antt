@@ -1,4 +1,4 @@
--- Pieces that were put one behind the other are the whole.
+-- Pieces that were put one after the other are the whole.
 use Rattle.std.proofs.Common.{◌≡◌, ℕ, ◌<◌, List, [], ◌∷◌, ◌++◌, Option, length, refl, ap, append_assoc, ◌∙◌, arith}
 use Rattle.ir_print.specs.Names.{Names}
 use Rattle.ir_print.specs.Instructions.{cases_text}

@@ -22,7 +22,7 @@ use Rattle.ir_print.specs.Literals.{ty_text, elem_text, vector_text}
 use Rattle.ir_print.specs.Names.{Names, local_of, is_store, is_void}
 use Rattle.ir_print.specs.Operands.{spaced, local_text, bare_at, typed_at, ty_at, opd_text, opd_ty, typed_text, block_text, label_text}
 
--- a word behind a space, where its flag is set
+-- a word after a space, where its flag is set
 abbrev pub flag_text : Bool → List ℕ → List ℕ
 flag_text true word = codes " " ++ word
 flag_text false word = []
@@ -57,7 +57,7 @@ abbrev pub stepped_text : Elem → Bool → List ℕ
 stepped_text e inbounds = codes "getelementptr" ++ (flag_text inbounds (codes "inbounds") ++ (codes " " ++ elem_text e))
 
 -- an `alloca`, with its align where that was given
--- an align, behind a comma
+-- an align, after a comma
 abbrev pub align_text : ℕ → List ℕ
 align_text n = codes ", align " ++ decimal n
 
@@ -191,7 +191,7 @@ module _ (ns : Names) (gs : List (List ℕ)) where
   call_text tail pre callee attrs post ty os =
       tail_text tail ++ (callee_text pre ty callee ++ (arguments_text os attrs ++ (codes ")" ++ spaced post)))
 
-  -- what stands behind the result
+  -- what stands after the result
   abbrev pub act_text : Op → Ty → List Opd → List ℕ
   act_text (Bin op f) ty os = bin_text op f ty os
   act_text (Icmp p) ty os = icmp_text p os

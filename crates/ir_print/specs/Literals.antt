@@ -30,7 +30,7 @@ abbrev pub is_zero : Option ℕ → Bool
 is_zero None = false
 is_zero (Some n) = nat_eq n 0
 
--- lanes behind the first, each with its type
+-- lanes after the first, each with its type
 abbrev pub more_lanes_text : ℕ → List (Option ℕ) → List ℕ
 more_lanes_text w [] = []
 more_lanes_text w (l ∷ ls) = codes ", i" ++ (decimal w ++ (codes " " ++ (lane_text w l ++ more_lanes_text w ls)))

@@ -9,7 +9,7 @@ use Rattle.ir_print.specs.declared.names.Local.{Local}
 use Rattle.ir_print.specs.Literals.{ty_text, literal_text}
 use Rattle.ir_print.specs.Names.{Names, local_of}
 
--- a text behind one space, where there is one
+-- a text after one space, where there is one
 abbrev pub spaced : List ℕ → List ℕ
 spaced [] = []
 spaced (b ∷ bs) = 32 ∷ (b ∷ bs)
@@ -38,11 +38,11 @@ opd_ty ns (Val id) = local_ty (local_of id ns.locals)
 opd_ty ns (Lit l) = l.ty
 opd_ty ns (Sym g) = Ptr
 
--- an operand behind its type
+-- an operand after its type
 abbrev pub typed_text : Names → List (List ℕ) → Opd → List ℕ
 typed_text ns gs o = ty_text (opd_ty ns o) ++ (codes " " ++ opd_text ns gs o)
 
--- the operand of a slot, if there is one: bare, or behind its type
+-- the operand of a slot, if there is one: bare, or after its type
 abbrev pub bare_at : Names → List (List ℕ) → Option Opd → List ℕ
 bare_at ns gs None = []
 bare_at ns gs (Some o) = opd_text ns gs o

@@ -38,7 +38,7 @@ abbrev pub label_line : Option (List ℕ) → List ℕ
 label_line None = []
 label_line (Some name) = name ++ codes ":\n"
 
--- a block behind another: an empty line, its label, its instructions
+-- a block after another: an empty line, its label, its instructions
 abbrev pub next_block : Names → List (List ℕ) → ℕ → Block → List ℕ
 next_block ns gs at b = codes "\n" ++ (label_line (slice_get ns.labels at) ++ insts_text ns gs b.insts)
 
@@ -73,7 +73,7 @@ abbrev pub gap_text : Bool → Bool → List ℕ
 gap_text false false = []
 gap_text _ _ = codes "\n"
 
--- items behind one that is a function or not
+-- items after one that is a function or not
 abbrev pub more_items : List (List ℕ) → Bool → List Item → List ℕ
 more_items gs before [] = []
 more_items gs before (i ∷ is) = gap_text before (is_function i) ++ (item_text gs i ++ more_items gs (is_function i) is)

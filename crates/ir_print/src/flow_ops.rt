@@ -1,6 +1,6 @@
 //! The operations on the flow of control, and calls.
 //!
-//! Each puts what stands behind the result, behind what is written already. Want of memory is the only failure.
+//! Each puts what stands after the result, after what is written already. Want of memory is the only failure.
 
 ghost use Rattle.std.specs.Prelude.{◌≡◌, ◌++◌, OnOk, codes, slice_get};
 ghost use Rattle.ir_print.specs.Instructions as instructions;

@@ -1,6 +1,6 @@
-//! Functions of the profile, put behind what is written already.
+//! Functions of the profile, put after what is written already.
 //!
-//! Want of memory is the only failure, and may leave a part of the text behind.
+//! Want of memory is the only failure, and may leave a part of the text after.
 
 ghost use Rattle.std.specs.Prelude.{◌≡◌, ◌++◌, OnOk, codes, slice_get};
 ghost use Rattle.std.specs.Option.{option_copied};
@@ -102,7 +102,7 @@ fn push_first_label(out: &mut Vec<u8>, name: &Option<Bytes>) -> Result<(), Alloc
     }
 }
 
-/// A block behind another.
+/// A block after another.
 fn push_next_block(
     out: &mut Vec<u8>,
     scope: &Scope,
@@ -117,7 +117,7 @@ fn push_next_block(
     Ok(())
 }
 
-/// The blocks behind the first, of which the first has this number.
+/// The blocks after the first, of which the first has this number.
 fn push_more_blocks(out: &mut Vec<u8>, scope: &Scope, blocks: &[Block]) -> Result<(), AllocError>
     ensures { OnOk result (out.new.items ≡ out.old.items ++ text.more_blocks scope.now.names.now scope.now.globals.now 1 blocks.now) }
 {

@@ -1,6 +1,6 @@
-//! Instructions on their lines, put behind what is written already.
+//! Instructions on their lines, put after what is written already.
 //!
-//! Want of memory is the only failure, and may leave a part of the text behind.
+//! Want of memory is the only failure, and may leave a part of the text after.
 
 ghost use Rattle.std.specs.Prelude.{◌≡◌, ◌++◌, OnOk, codes};
 ghost use Rattle.ir_print.specs.Instructions as instructions;
@@ -17,7 +17,7 @@ use crate::value_ops::{
 use ir_types::{Inst, Op, Opd, Ty};
 use std::alloc::AllocError;
 
-/// What stands behind the result.
+/// What stands after the result.
 fn push_act(
     out: &mut Vec<u8>,
     scope: &Scope,

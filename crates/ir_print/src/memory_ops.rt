@@ -1,6 +1,6 @@
 //! The operations on memory and addresses.
 //!
-//! Each puts what stands behind the result, behind what is written already. Want of memory is the only failure.
+//! Each puts what stands after the result, after what is written already. Want of memory is the only failure.
 
 ghost use Rattle.std.specs.Prelude.{◌≡◌, ◌++◌, OnOk, codes};
 ghost use Rattle.ir_print.specs.Instructions as instructions;
@@ -48,7 +48,7 @@ pub(crate) fn push_gep(
     Ok(())
 }
 
-/// An align, behind a comma.
+/// An align, after a comma.
 fn push_align(out: &mut Vec<u8>, align: u64) -> Result<(), AllocError>
     ensures { OnOk result (out.new.items ≡ out.old.items ++ instructions.align_text align) }
 {

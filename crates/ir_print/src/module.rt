@@ -52,7 +52,7 @@ fn push_gap(out: &mut Vec<u8>, before: bool, after: bool) -> Result<(), AllocErr
     Ok(())
 }
 
-/// The items behind one that is a function or not.
+/// The items after one that is a function or not.
 fn push_more_items(
     alloc: Global,
     out: &mut Vec<u8>,

@@ -1,6 +1,6 @@
-//! Types and literals, put behind what is written already.
+//! Types and literals, put after what is written already.
 //!
-//! Want of memory is the only failure, and may leave a part of the text behind.
+//! Want of memory is the only failure, and may leave a part of the text after.
 
 ghost use Rattle.std.specs.Prelude.{◌≡◌, ◌-◌, ◌^◌, ◌≤◌, ◌++◌, OnOk, codes, nat_eq, nat_lt, slice_get, if◌then◌else◌, false};
 ghost use Rattle.std.specs.List.{list_all};

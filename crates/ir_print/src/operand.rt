@@ -1,7 +1,7 @@
-//! Operands and labels, put behind what is written already.
+//! Operands and labels, put after what is written already.
 //!
 //! Want of memory is the only failure, and may leave a part of
-//! the text behind.
+//! the text after.
 
 ghost use Rattle.std.specs.Prelude.{◌≡◌, ◌++◌, OnOk, codes, slice_get};
 ghost use Rattle.ir_print.specs.Literals as literals;
@@ -14,7 +14,7 @@ use crate::scope::Scope;
 use ir_types::{Bytes, Id, Opd, Ty};
 use std::alloc::AllocError;
 
-/// A text behind one space, or nothing where it is empty.
+/// A text after one space, or nothing where it is empty.
 pub(crate) fn push_spaced(out: &mut Vec<u8>, text: &[u8]) -> Result<(), AllocError>
     ensures { OnOk result (out.new.items ≡ out.old.items ++ operands.spaced text.now) }
 {
@@ -86,7 +86,7 @@ fn ty_of_local(names: &Names, id: Id) -> Ty
     }
 }
 
-/// An operand behind its type.
+/// An operand after its type.
 pub(crate) fn push_typed(out: &mut Vec<u8>, scope: &Scope, opd: &Opd) -> Result<(), AllocError>
     ensures { OnOk result (out.new.items ≡ out.old.items ++ operands.typed_text scope.now.names.now scope.now.globals.now opd.now) }
 {
@@ -111,7 +111,7 @@ pub(crate) fn push_bare_at(
     }
 }
 
-/// The operand of a slot behind its type, if there is one.
+/// The operand of a slot after its type, if there is one.
 pub(crate) fn push_typed_at(
     out: &mut Vec<u8>,
     scope: &Scope,

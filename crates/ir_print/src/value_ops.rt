@@ -1,6 +1,6 @@
 //! The value operations: arithmetic, comparison, conversion, choice and the lanes of vectors.
 //!
-//! Each puts what stands behind the result, behind what is written already. Want of memory is the only failure.
+//! Each puts what stands after the result, after what is written already. Want of memory is the only failure.
 
 ghost use Rattle.std.specs.Prelude.{◌≡◌, ◌++◌, OnOk, codes, true};
 ghost use Rattle.vx_num.specs.Keywords as keywords;
@@ -61,7 +61,7 @@ fn cast_word(op: CastOp) -> &'static [u8]
     }
 }
 
-/// A word behind a space, where its flag is set.
+/// A word after a space, where its flag is set.
 pub(crate) fn push_flag(out: &mut Vec<u8>, flag: bool, word: &[u8]) -> Result<(), AllocError>
     ensures { OnOk result (out.new.items ≡ out.old.items ++ instructions.flag_text flag word.now) }
 {
@@ -105,7 +105,7 @@ fn push_two(out: &mut Vec<u8>, scope: &Scope, opds: &[Opd]) -> Result<(), AllocE
     Ok(())
 }
 
-/// Two operands, each behind its type.
+/// Two operands, each after its type.
 pub(crate) fn push_two_typed(
     out: &mut Vec<u8>,
     scope: &Scope,

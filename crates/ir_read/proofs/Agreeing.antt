@@ -74,7 +74,7 @@ module _ (known : Outlook) (all : List (List ℕ)) where
     in_opaque : (done : Done) (g : Origin) → g.line < n → steps_from known n (opaque done g) (drop (g.line - 1) all) ls
         ≡ kept done g.line g.name (n - g.line + to_brace (forms_from true ls)) n (forms_from true ls)
 
-  -- one more line, where the lines behind it agree
+  -- one more line, where the lines after it agree
   module _ (n : ℕ) (ls : List (List ℕ)) (next : Agrees (n + 1) ls) where
     abbrev fs : List (Option Line)
     fs = forms_from true ls
@@ -138,14 +138,14 @@ module _ (known : Outlook) (all : List (List ℕ)) where
     -- ---- in one whose lines stand where they may
 
     module _ (done : Done) (name : Option (List ℕ)) (o : Open) (older : o.line < n) where
-      abbrev behind : Progress → Read
-      behind after = steps_from known (n + 1) after (drop (o.line - 1) all) ls
+      abbrev past : Progress → Read
+      past after = steps_from known (n + 1) after (drop (o.line - 1) all) ls
 
       abbrev kept_next : Read
       kept_next = kept done o.line name (n - o.line + suc (to_brace fs)) (n + 1) fs
 
       goes_on : (form : Line) (p q : Position) → flow q ≡ flow p →
-          behind (sound done name (with_line o n form q)) ≡ cond (any_foreign known.names p fs) kept_next (read_from known all (n + 1) (going_on done (with_line o n form q)) fs)
+          past (sound done name (with_line o n form q)) ≡ cond (any_foreign known.names p fs) kept_next (read_from known all (n + 1) (going_on done (with_line o n form q)) fs)
       unfolding with_line
       goes_on form p q e =
           sound_next done name (with_line o n form q) older
@@ -155,21 +155,21 @@ module _ (known : Outlook) (all : List (List ℕ)) where
           ((q : Position) → added n done name o form q ≡ sound done name (with_line o n form q)) →
           misplaced n done name o form ≡ Ok (faulty done (began o.line name) p n) →
           ((q : Position) → placed done o n form q ≡ going_on done (with_line o n form q)) →
-          (judged n done name o form r >>= behind) ≡ cond (b || any_foreign known.names p fs) kept_next (r >>= (λ q. Ok (placed done o n form q)) >>= (λ after. read_from known all (n + 1) after fs))
+          (judged n done name o form r >>= past) ≡ cond (b || any_foreign known.names p fs) kept_next (r >>= (λ q. Ok (placed done o n form q)) >>= (λ after. read_from known all (n + 1) after fs))
       settled form p _ _ (Goes q e) put miss place =
-          ap behind (put q) ∙ goes_on form p q e ∙ ap (λ x. cond (any_foreign known.names p fs) kept_next (read_from known all (n + 1) x fs)) (sym (place q))
+          ap past (put q) ∙ goes_on form p q e ∙ ap (λ x. cond (any_foreign known.names p fs) kept_next (read_from known all (n + 1) x fs)) (sym (place q))
       settled form p _ _ Fails put miss place =
-          ap (λ (r : Result Progress ReadRefusal). r >>= behind) miss ∙ faulty_next done (began o.line name) p n older
+          ap (λ (r : Result Progress ReadRefusal). r >>= past) miss ∙ faulty_next done (began o.line name) p n older
       settled form p _ _ Leaves put miss place = opaque_next done (began o.line name) older
 
       closing : (b : Bool) →
-          (judged n done name o line.Close (cond b (Ok o.at) (Err (Misplaced n))) >>= behind)
+          (judged n done name o line.Close (cond b (Ok o.at) (Err (Misplaced n))) >>= past)
           ≡ (cond b (Ok o.at) (Err (Misplaced n)) >>= (λ q. Ok (placed done o n line.Close q)) >>= (λ after. read_from known all (n + 1) after (forms_from false ls)))
       closing true = next.in_module (closed done o) (drop (o.line - 1) all)
       closing false = refl
 
       sound_line : (f : Option Line) →
-          (sound_step known n done name o f >>= behind)
+          (sound_step known n done name o f >>= past)
           ≡ cond (any_foreign known.names o.at (f ∷ forms_from (inside_after true f) ls)) (kept done o.line name (n - o.line + to_brace (f ∷ forms_from (inside_after true f) ls)) n (f ∷ forms_from (inside_after true f) ls))
           (read_from known all n (going_on done o) (f ∷ forms_from (inside_after true f) ls))
       unfolding sound_step line_inside at_close

@@ -10,7 +10,7 @@ use Rattle.ir_draft.specs.declared.line.Line.{Line}
 use Rattle.ir_draft.specs.declared.line.Line.TheVariants as line
 use Rattle.ir_read.specs.declared.position.Position.{Position}
 use Rattle.ir_read.specs.declared.position.Spot.{Spot}
-use Rattle.ir_read.specs.declared.position.Spot.TheVariants.{Between, Front, Behind, Cases}
+use Rattle.ir_read.specs.declared.position.Spot.TheVariants.{Between, Front, After, Cases}
 use Rattle.ir_read.specs.declared.refusal.ReadRefusal.{ReadRefusal}
 use Rattle.ir_read.specs.declared.refusal.ReadRefusal.TheVariants.{NotALine, Misplaced}
 use Rattle.ir_read.specs.Answers.{◌>>=◌}
@@ -32,7 +32,7 @@ first_at : (next insts blocks : ℕ) (s : Spot) → in_first (at next insts bloc
 unfolding opened
 first_at next insts blocks Between = refl
 first_at next insts blocks Front = refl
-first_at next insts blocks Behind = refl
+first_at next insts blocks After = refl
 first_at next insts blocks Cases = refl
 
 foreign_flow : (p : Position) (op : Op) → is_foreign p op ≡ is_foreign (flow p) op
@@ -51,21 +51,21 @@ label_at : (next insts blocks : ℕ) (s : Spot) → flow (passed_label (at next 
 unfolding passed_label
 label_at next insts blocks Between = refl
 label_at next insts blocks Front = refl
-label_at next insts blocks Behind = refl
+label_at next insts blocks After = refl
 label_at next insts blocks Cases = refl
 
 stmt_at : (next insts blocks : ℕ) (s : Spot) (op : Op) → flow (passed_stmt (at next insts blocks s) op) ≡ flow (passed_stmt (at 0 0 blocks s) op)
 unfolding passed_stmt opened
 stmt_at next insts blocks Between op = refl
 stmt_at next insts blocks Front op = refl
-stmt_at next insts blocks Behind op = refl
+stmt_at next insts blocks After op = refl
 stmt_at next insts blocks Cases op = refl
 
 end_at : (next insts blocks : ℕ) (s : Spot) → flow (passed_end (at next insts blocks s)) ≡ flow (passed_end (at 0 0 blocks s))
 unfolding passed_end
 end_at next insts blocks Between = refl
 end_at next insts blocks Front = refl
-end_at next insts blocks Behind = refl
+end_at next insts blocks After = refl
 end_at next insts blocks Cases = refl
 
 passed_flow : (p : Position) (form : Line) → flow (passed_over p form) ≡ flow (passed_over (flow p) form)
@@ -124,7 +124,7 @@ params_counted n next (p ∷ ps) = here (after_param n next p.name) (param_count
 
 -- ---- what is found of a line
 
--- a line of a function that is outside the profile or not, behind which `p` is the position where nothing is asked
+-- a line of a function that is outside the profile or not, after which `p` is the position where nothing is asked
 pub data Found (n : ℕ) (p : Position) : Bool → Result Position ReadRefusal → Type 0 where
   Goes : (q : Position) → flow q ≡ flow p → Found n p false (Ok q)
   Fails : Found n p false (Err (Misplaced n))
@@ -138,7 +138,7 @@ label_found_at : (n next insts blocks : ℕ) (s : Spot) (name : List ℕ) → Fo
 unfolding passed_label after_label
 label_found_at n next insts blocks Between name = counted_found n _ (after_name n next name) (λ k. at k insts (blocks + 1) Front) (name_counted n next name) (λ k. refl)
 label_found_at n next insts blocks Front name = Fails
-label_found_at n next insts blocks Behind name = Fails
+label_found_at n next insts blocks After name = Fails
 label_found_at n next insts blocks Cases name = Fails
 
 pub label_found : (n : ℕ) (p : Position) (name : List ℕ) → Found n (passed_label p) false (after_label n p name)
@@ -154,7 +154,7 @@ stmt_found_at : (n next insts blocks : ℕ) (spot : Spot) (s : Stmt) → Found n
 unfolding passed_stmt after_stmt
 stmt_found_at n next insts blocks Between s = stmt_stands n (at next insts blocks Between) (opened (at next insts blocks Between)) true s
 stmt_found_at n next insts blocks Front s = stmt_stands n (at next insts blocks Front) (opened (at next insts blocks Front)) true s
-stmt_found_at n next insts blocks Behind s = stmt_stands n (at next insts blocks Behind) (opened (at next insts blocks Behind)) (may_stand Behind s.op) s
+stmt_found_at n next insts blocks After s = stmt_stands n (at next insts blocks After) (opened (at next insts blocks After)) (may_stand After s.op) s
 stmt_found_at n next insts blocks Cases s = Fails
 
 pub stmt_found : (names : List (List ℕ)) (n : ℕ) (p : Position) (s : Stmt) → Found n (passed_stmt p s.op) (is_outside names p s) (after_inst names n p s)

@@ -89,7 +89,7 @@ unchanged o l = here (fault_of l) where
   here None = (inner o l (cut l)).0
   here (Some k) = nothing_more o
 
--- the line behind one with these tokens, which is in a function, stands in it unless they are a brace alone
+-- the line after one with these tokens, which is in a function, stands in it unless they are a brace alone
 pub goes_on : (n : ℕ) (l : List ℕ) (ts : List Token) → Lexed l ts → unless (fault_at n l) (inside_after true (form_in true l)) ≡ Ok (not (is_brace (words l ts)))
 unfolding form_by
 goes_on n l ts lexed =
@@ -97,7 +97,7 @@ goes_on n l ts lexed =
     let next : inside_after true (form_in true l) ≡ not (is_brace (words l ts)) = ap (inside_after true) (sym form) ∙ (inner record { names = []; other_pointers = false } l ts).1 in
     without_fault n l ts (inside_after true (form_in true l)) lexed ∙ ap Ok next
 
--- what is known behind a line inside a function, by whether the next one stands there too
+-- what is known after a line inside a function, by whether the next one stands there too
 pub seen_inside : (o : Outlook) (n : ℕ) (l : List ℕ) (said : Result Bool ReadRefusal) → Gives (λ next. next) said (unless (fault_at n l) (inside_after true (form_in true l))) →
     Gives {Y = Outlook × Bool} (λ next. (o, next)) said (line_seen o n true l)
 seen_inside o n l said g = subst (λ x. Gives {Y = Outlook × Bool} (λ next. (o, next)) said (unless {A = Outlook × Bool} (fault_at n l) (x, inside_after true (form_in true l)))) (sym (unchanged o l)) (here (fault_at n l) said g) where

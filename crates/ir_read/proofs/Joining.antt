@@ -1,4 +1,4 @@
--- Lines that are written one by one, each behind a line feed.
+-- Lines that are written one by one, each after a line feed.
 use Rattle.std.proofs.Common.{◌≡◌, ℕ, zero, suc, ◌-◌, ◌<◌, ◌≤◌, List, [], ◌∷◌, ◌++◌, length, take, sym, ◌∙◌, ap, arith, append_assoc}
 use Rattle.std.proofs.lemmas.List.{append-nil}
 use Rattle.ir_read.specs.Lines.{lines_of}
@@ -24,6 +24,6 @@ none_left out zero [] none = append-nil out
 none_left out (suc k) [] none = append-nil out
 none_left out left (b ∷ bs) none = absurd (omega (arith, none))
 
--- the first and those behind it
+-- the first and those after it
 pub first_joined : (line : List ℕ) (more : ℕ) (all rest : List (List ℕ)) → all ≡ line ∷ rest → ([] ++ line) ++ on_new_lines (take more rest) ≡ joined (take (suc more) all)
 first_joined line more all rest e = ap (λ (ls : List (List ℕ)). joined (take (suc more) ls)) (sym e)

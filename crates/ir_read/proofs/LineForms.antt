@@ -55,7 +55,7 @@ without_fault n line ts a lexed =
 pub with_fault : {A : Type 0} (n : ℕ) (line : List ℕ) (l byte : ℕ) (a : A) → IsRefusal n line (lexical.Lex l byte) → unless (fault_at n line) a ≡ Err (Lex l byte)
 with_fault n line l byte a (k, here, at, first) = rw (fault_some line k first, here, at) refl
 
--- what is known behind a line, by its form
+-- what is known after a line, by its form
 pub seen_line : (o after : Outlook) (n : ℕ) (inside next : Bool) (line : List ℕ) (form : Option Line) → unless (fault_at n line) (form_in inside line) ≡ Ok form →
     after ≡ with_line o form → next ≡ inside_after inside form → line_seen o n inside line ≡ Ok (after, next)
 seen_line o after n inside next line form said known goes = here (fault_at n line) said where

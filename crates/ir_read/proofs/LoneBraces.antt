@@ -23,7 +23,7 @@ remark b bs k s = rw (k, s) refl
 some_words : (w : List ℕ) (ws : List (List ℕ)) → nothing (w ∷ ws) ≡ false
 some_words w ws = elim (eqb_tells (length (w ∷ ws)) 0) [ inl e ↦ absurd (let z = e.1 in omega arith) | inr e ↦ e.0 ]
 
--- behind a byte that is no blank there is no token exactly where it begins a comment
+-- after a byte that is no blank there is no token exactly where it begins a comment
 pub no_token : (b : ℕ) (bs : List ℕ) → is_blank b ≡ false → nothing (texts_from 0 (b ∷ bs)) ≡ (b == 59)
 no_token b bs k = here (b == semicolon) refl where
   here : (t : Bool) → (b == semicolon) ≡ t → nothing (texts_from 0 (b ∷ bs)) ≡ (b == 59)

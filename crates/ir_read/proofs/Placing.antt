@@ -1,4 +1,4 @@
--- Lines of a function's body, one behind the other, and names for what is known between two lines: proofs of other crates speak of these.
+-- Lines of a function's body, one after the other, and names for what is known between two lines: proofs of other crates speak of these.
 use Rattle.std.proofs.Common.{ℕ, ◌+◌, Result, Ok, Err, List, [], ◌∷◌}
 use Rattle.ir_draft.specs.declared.line.Line.{Line}
 use Rattle.ir_draft.specs.declared.line.Line.TheVariants as line
@@ -6,7 +6,7 @@ use Rattle.ir_read.specs.declared.outlook.Outlook.{Outlook}
 use Rattle.ir_read.specs.declared.open_function.OpenFunction.{OpenFunction as Open}
 use Rattle.ir_read.specs.declared.position.Position.{Position}
 use Rattle.ir_read.specs.declared.position.Spot.{Spot}
-use Rattle.ir_read.specs.declared.position.Spot.TheVariants.{Between, Front, Behind, Cases}
+use Rattle.ir_read.specs.declared.position.Spot.TheVariants.{Between, Front, After, Cases}
 use Rattle.ir_read.specs.declared.progress.Done.{Done}
 use Rattle.ir_read.specs.declared.refusal.ReadRefusal.{ReadRefusal}
 use Rattle.ir_read.specs.declared.refusal.ReadRefusal.TheVariants.{Misplaced}
@@ -40,8 +40,8 @@ no_block = Between
 abbrev pub front : Spot
 front = Front
 
-abbrev pub behind : Spot
-behind = Behind
+abbrev pub after : Spot
+after = After
 
 abbrev pub cases : Spot
 cases = Cases
@@ -49,12 +49,12 @@ cases = Cases
 abbrev pub place : ℕ → ℕ → ℕ → Spot → Position
 place next insts blocks spot = record { next = next; insts = insts; blocks = blocks; spot = spot }
 
--- behind the line n of a body, which has this form; the brace is of no body
+-- after the line n of a body, which has this form; the brace is of no body
 abbrev pub body_line : List (List ℕ) → ℕ → Position → Line → Result Position ReadRefusal
 body_line names n p line.Close = Err (Misplaced n)
 body_line names n p form = after_line names n p form
 
--- behind lines of these forms, of which the first has the number n
+-- after lines of these forms, of which the first has the number n
 abbrev pub body_lines : List (List ℕ) → ℕ → Position → List Line → Result Position ReadRefusal
 body_lines names n p [] = Ok p
 body_lines names n p (f ∷ fs) = body_line names n p f >>= (λ q. body_lines names (n + 1) q fs)

@@ -14,10 +14,10 @@ use Rattle.ir_line.proofs.BodyLines.{body_spelled}
 use Rattle.ir_line.proofs.SoundLines.{sound_line}
 use Rattle.ir_line.proofs.WholeLines.{IsWholeLine, whole_line}
 use Rattle.ir_line.proofs.Bodies as stage
-use Rattle.ir_line.proofs.Bodies.{Stage, May, stage_after, begun, IsStmtAt, Stands, stage_behind, begun_behind, IsBodyFrom, IsBody}
+use Rattle.ir_line.proofs.Bodies.{Stage, May, stage_after, begun, IsStmtAt, Stands, stage_after_line, begun_after, IsBodyFrom, IsBody}
 use Rattle.ir_read.specs.declared.position.Position.{Position}
 use Rattle.ir_read.specs.declared.position.Spot.{Spot}
-use Rattle.ir_read.specs.declared.position.Spot.TheVariants.{Between, Front, Behind, Cases}
+use Rattle.ir_read.specs.declared.position.Spot.TheVariants.{Between, Front, After, Cases}
 use Rattle.ir_read.specs.declared.refusal.ReadRefusal.{ReadRefusal}
 use Rattle.ir_read.specs.Answers.{◌>>=◌}
 use Rattle.ir_read.specs.Numbers.{after_name, after_result}
@@ -56,7 +56,7 @@ cond_not false r refusal y e k = k refl e
 stage_of : Spot → Stage
 stage_of Between = stage.Between
 stage_of Front = stage.Front
-stage_of Behind = stage.Behind
+stage_of After = stage.After
 stage_of Cases = stage.Cases
 
 after_op : (op : Op) → stage_after op ≡ stage_of (spot_after op)
@@ -75,14 +75,14 @@ begun_is p = here p.spot refl where
   here : (s : Spot) → p.spot ≡ s → begun (stage_of s) p.blocks ≡ (cond (is_between s) (record { next = p.next + 1; insts = p.insts; blocks = p.blocks + 1; spot = Front }) p).blocks
   here Between e = refl
   here Front e = refl
-  here Behind e = refl
+  here After e = refl
   here Cases e = refl
 
 may : (s : Spot) (op : Op) → may_stand s op ≡ true → May (stage_of s) op
 unfolding stage_of
 may Between op e = tt
 may Front op e = tt
-may Behind op e = here (is_phi op) e where
+may After op e = here (is_phi op) e where
   here : (b : Bool) → not b ≡ true → b ≡ false
   here true e = sym e
   here false e = refl
@@ -92,14 +92,14 @@ is_open_between : (s : Spot) → is_between s ≡ true → stage.IsBetween (stag
 unfolding stage_of
 is_open_between Between e = tt
 is_open_between Front e = clash (sym e)
-is_open_between Behind e = clash (sym e)
+is_open_between After e = clash (sym e)
 is_open_between Cases e = clash (sym e)
 
 is_open_cases : (s : Spot) → is_cases s ≡ true → stage.IsCases (stage_of s)
 unfolding stage_of
 is_open_cases Cases e = tt
 is_open_cases Front e = clash (sym e)
-is_open_cases Behind e = clash (sym e)
+is_open_cases After e = clash (sym e)
 is_open_cases Between e = clash (sym e)
 
 -- ---- lines
@@ -158,12 +158,12 @@ no_form : {P : Type 0} {b : Option Line} {bs : List (Option Line)} → [] ≡ b 
 no_form e = cc
 
 -- one line, and what follows it
-grown : (p q : Position) (n : ℕ) (form : Line) (fs : List Line) → Stands (stage_of p.spot) p.blocks form → stage_behind (stage_of p.spot) form ≡ stage_of q.spot → begun_behind (stage_of p.spot) p.blocks form ≡ q.blocks →
+grown : (p q : Position) (n : ℕ) (form : Line) (fs : List Line) → Stands (stage_of p.spot) p.blocks form → stage_after_line (stage_of p.spot) form ≡ stage_of q.spot → begun_after (stage_of p.spot) p.blocks form ≡ q.blocks →
     IsBodyFrom (stage_of q.spot) q.blocks (numbered_from (n + 1) fs) → IsBodyFrom (stage_of p.spot) p.blocks (record { line = n; form = form } ∷ numbered_from (n + 1) fs)
 grown p q n form fs s e f more =
-    (s, subst (λ x. IsBodyFrom x (begun_behind (stage_of p.spot) p.blocks form) (numbered_from (n + 1) fs)) (sym e) (subst (λ x. IsBodyFrom (stage_of q.spot) x (numbered_from (n + 1) fs)) (sym f) more))
+    (s, subst (λ x. IsBodyFrom x (begun_after (stage_of p.spot) p.blocks form) (numbered_from (n + 1) fs)) (sym e) (subst (λ x. IsBodyFrom (stage_of q.spot) x (numbered_from (n + 1) fs)) (sym f) more))
 
--- lines that stand where they may from here, and behind which a brace may stand
+-- lines that stand where they may from here, and after which a brace may stand
 body_from : (names : List (List ℕ)) (n k : ℕ) (p end q : Position) (body : List (List ℕ)) (forms : List Line) → map (form_in true) body ≡ map Some forms → body_lines names n p forms ≡ Ok end → at_close k end ≡ Ok q → IsBodyFrom (stage_of p.spot) p.blocks (numbered_from n forms)
 unfolding after_label after_inst after_stmt after_case after_cases at_close stage_of
 body_from names n k p end q [] [] e s shut =

@@ -247,7 +247,7 @@ draft_sized bytes d e = go (passed (size_of d.items)) (sym (items_sized bytes d.
 
 -- ---- the lines of one body
 
--- lines that stand where they may, by the positions before and behind them
+-- lines that stand where they may, by the positions before and after them
 pub record BodySized (p q : Position) (xs : List Numbered) : Type 0 where
   pub insts : q.insts ≡ p.insts + insts_in xs
   pub blocks : q.blocks ≡ p.blocks + blocks_in (is_between p.spot) xs

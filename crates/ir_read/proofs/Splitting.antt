@@ -17,9 +17,9 @@ in_line : (h : Bool) (b c : ℕ) (xs : List ℕ) (rest : List (List ℕ)) (ls : 
 in_line true b c xs rest ls e = ap (onto b) e
 in_line false b c xs rest ls e = ap (onto b) e
 
-behind : (b c : ℕ) (cs : List ℕ) (g : Bool) → (c == 10) ≡ g → IsSplit (c ∷ cs) → cond ((b == 13) && (c == 10)) (lines_of (c ∷ cs)) (onto b (lines_of (c ∷ cs))) ≡ without_return (b ∷ take (line_len (c ∷ cs)) (c ∷ cs)) ∷ lines_of (drop (suc (line_len (c ∷ cs))) (c ∷ cs))
-behind b c cs true feed ih = rw feed (at_feed (b == 13) b _ _ (rw feed at ih))
-behind b c cs false other ih = rw other (in_line (b == 13) b c _ _ _ (rw other at ih))
+after : (b c : ℕ) (cs : List ℕ) (g : Bool) → (c == 10) ≡ g → IsSplit (c ∷ cs) → cond ((b == 13) && (c == 10)) (lines_of (c ∷ cs)) (onto b (lines_of (c ∷ cs))) ≡ without_return (b ∷ take (line_len (c ∷ cs)) (c ∷ cs)) ∷ lines_of (drop (suc (line_len (c ∷ cs))) (c ∷ cs))
+after b c cs true feed ih = rw feed (at_feed (b == 13) b _ _ (rw feed at ih))
+after b c cs false other ih = rw other (in_line (b == 13) b c _ _ _ (rw other at ih))
 
 split_one : (b : ℕ) (f : Bool) → (b == 10) ≡ f → line_len (b ∷ []) < 1 → IsSplit (b ∷ [])
 split_one b true feed within = rw feed refl
@@ -29,7 +29,7 @@ split_more : (b c : ℕ) (cs : List ℕ) (f : Bool) → (b == 10) ≡ f → (lin
 split_more b c cs true feed ih within = rw feed refl
 split_more b c cs false other ih within =
     let less : suc (line_len (c ∷ cs)) < suc (length (c ∷ cs)) = rw other at within in
-    rw other (behind b c cs (c == 10) refl (ih (omega (arith, less))))
+    rw other (after b c cs (c == 10) refl (ih (omega (arith, less))))
 
 -- where a line feed comes, the first line stands before it
 pub split_at_feed : (bs : List ℕ) → line_len bs < length bs → IsSplit bs

@@ -10,5 +10,5 @@ numbered_from n [] = []
 numbered_from n (Empty ∷ fs) = numbered_from (n + 1) fs
 numbered_from n (f ∷ fs) = record { line = n; form = f } ∷ numbered_from (n + 1) fs
 
-behind_empty : numbered_from 7 (Empty ∷ CasesEnd ∷ []) ≡ record { line = 8; form = CasesEnd } ∷ []
-behind_empty = refl
+after_empty : numbered_from 7 (Empty ∷ CasesEnd ∷ []) ≡ record { line = 8; form = CasesEnd } ∷ []
+after_empty = refl

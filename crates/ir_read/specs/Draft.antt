@@ -75,7 +75,7 @@ with_opaque done n name text = record { items = done.items ++ OpaqueItem n name 
 unfoldable pub closed : Done → Open → Done
 closed done o = record { items = done.items ++ Func o.line o.head o.body ∷ []; size = with_function done.size o }
 
--- with the line n of the open function, where its form and the position behind it are these
+-- with the line n of the open function, where its form and the position after it are these
 abbrev pub placed : Done → Open → ℕ → Line → Position → Reading
 placed done o n line.Empty p = going_on done o
 placed done o n line.Close p = between (closed done o)
@@ -92,7 +92,7 @@ unfoldable pub header_line : ℕ → Done → Option Head → Result Reading Rea
 header_line n done None = Err (NotALine n)
 header_line n done (Some head) = opened_by n head >>= (λ o. Ok (going_on done o))
 
--- a header in the line n of these lines, behind which lines of these forms stand
+-- a header in the line n of these lines, after which lines of these forms stand
 unfoldable pub function_line : Outlook → List (List ℕ) → ℕ → List (Option Line) → Done → Option (List ℕ) → Option Head → Result Reading ReadRefusal
 function_line known ls n fs done name head =
     cond (is_opaque known head fs) (Ok (passing (with_opaque done n name (text_at ls n fs)))) (header_line n done head)
@@ -115,7 +115,7 @@ step_in known ls n fs done Nothing (Some form) = line_outside known ls n fs done
 step_in known ls n fs done (Profile o) (Some form) = line_inside known n done o form
 step_in known ls n fs done _ None = Err (NotALine n)
 
--- the line n of these lines, with its form if it has one, and the forms of the lines behind it
+-- the line n of these lines, with its form if it has one, and the forms of the lines after it
 abbrev pub step : Outlook → List (List ℕ) → ℕ → List (Option Line) → Reading → Option Line → Result Reading ReadRefusal
 step known ls n fs read f = step_in known ls n fs read.done read.current f
 

@@ -35,7 +35,7 @@ hello : draft_of (codes "hello") ≡ Err (NotALine 1)
 unfolding form_in form_by read_outside cut more_len is_blank is_sigil is_mark is_word_byte begins_name keeps_mark keeps_word word is_control
 hello = refl
 
--- a lexical fault behind it comes first
+-- a lexical fault after it comes first
 fault_first : draft_of (codes "hello\n \u{1}") ≡ Err (Lex 2 2)
 unfolding is_control
 fault_first = refl

@@ -38,11 +38,11 @@ is_foreign p _ = false
 abbrev pub is_outside : List (List ℕ) → Position → Stmt → Bool
 is_outside names p s = is_foreign p s.op || any_barred names s.args
 
--- behind the line n, which is an instruction; one that is both outside the profile and misplaced is outside the profile
+-- after the line n, which is an instruction; one that is both outside the profile and misplaced is outside the profile
 unfoldable pub after_inst : List (List ℕ) → ℕ → Position → Stmt → Result Position ReadRefusal
 after_inst names n p s = cond (is_outside names p s) (Err (NotALine n)) (after_stmt n p s)
 
--- behind the line n of a function, which has this form
+-- after the line n of a function, which has this form
 abbrev pub after_line : List (List ℕ) → ℕ → Position → Line → Result Position ReadRefusal
 after_line names n p line.Empty = Ok p
 after_line names n p (line.Label name) = after_label n p name

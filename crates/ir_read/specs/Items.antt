@@ -22,7 +22,7 @@ abbrev pub closed_items : ℕ → Done → Opened → Result (List DraftItem) Re
 closed_items n done Nothing = Ok done.items
 closed_items n done _ = Err (Misplaced n)
 
--- the items that lines of these forms are, of which the first is the line n of these lines, behind what is read; or the first line that
+-- the items that lines of these forms are, of which the first is the line n of these lines, after what is read; or the first line that
 -- may not stand where it does
 abbrev pub items_from : Outlook → List (List ℕ) → ℕ → Reading → List (Option Line) → Result (List DraftItem) ReadRefusal
 items_from known ls n read [] = closed_items n read.done read.current

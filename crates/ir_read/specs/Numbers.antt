@@ -16,16 +16,16 @@ abbrev pub is_next : ℕ → Option ℕ → Bool
 is_next next None = false
 is_next next (Some n) = nat_eq n next
 
--- the counter behind a written name in the line n: a number must be the next, and any other name takes none
+-- the counter after a written name in the line n: a number must be the next, and any other name takes none
 unfoldable pub after_name : ℕ → ℕ → List ℕ → Result ℕ ReadRefusal
 after_name n next name = cond (is_unnamed name) (cond (is_next next (number_of name)) (Ok (next + 1)) (Err (Misplaced n))) (Ok next)
 
--- behind a result, if there is one
+-- after a result, if there is one
 abbrev pub after_result : ℕ → ℕ → Option (List ℕ) → Result ℕ ReadRefusal
 after_result n next None = Ok next
 after_result n next (Some name) = after_name n next name
 
--- behind a parameter: one without a written name takes the next number
+-- after a parameter: one without a written name takes the next number
 abbrev pub after_param : ℕ → ℕ → Option (List ℕ) → Result ℕ ReadRefusal
 after_param n next None = Ok (next + 1)
 after_param n next (Some name) = after_name n next name

@@ -1,6 +1,6 @@
 -- Which functions are opaque: those that are kept as their lines are, as something in them is outside the profile.
 --
--- A function is judged by its header and by the lines behind that, up to its brace, which is the first line whose only token is `}`.
+-- A function is judged by its header and by the lines after that, up to its brace, which is the first line whose only token is `}`.
 -- Whether such a line stands where it may is not asked: a line that is misplaced may still be followed by one that is outside the profile.
 use Rattle.std.specs.Prelude.{◌≡◌, refl, ℕ, suc, ◌+◌, ◌-◌, Bool, true, false, ◌||◌, cond, Option, None, Some, List, [], ◌∷◌, ◌++◌, codes, drop, take}
 use Rattle.ir_types.specs.declared.op.Op.{Op}
@@ -15,19 +15,19 @@ use Rattle.ir_read.specs.Function.{is_outside}
 
 -- ---- where a line stands, whether or not it may
 
--- behind a label: a block begins, but not among the cases of a switch
+-- after a label: a block begins, but not among the cases of a switch
 unfoldable pub passed_label : Position → Position
 passed_label p = cond (is_cases p.spot) p (record { next = p.next; insts = p.insts; blocks = p.blocks + 1; spot = Front })
 
--- behind an instruction, the same
+-- after an instruction, the same
 unfoldable pub passed_stmt : Position → Op → Position
 passed_stmt p op = cond (is_cases p.spot) p (record { next = p.next; insts = p.insts; blocks = (opened p).blocks; spot = spot_after op })
 
--- behind the end of a switch, if one is open
+-- after the end of a switch, if one is open
 unfoldable pub passed_end : Position → Position
 passed_end p = cond (is_cases p.spot) (record { next = p.next; insts = p.insts; blocks = p.blocks; spot = Between }) p
 
--- behind a line of this form; numbers are not counted on
+-- after a line of this form; numbers are not counted on
 abbrev pub passed_over : Position → Line → Position
 passed_over p (line.Label name) = passed_label p
 passed_over p (line.Stmt s) = passed_stmt p s.op
@@ -57,7 +57,7 @@ abbrev pub is_headless : Option Head → Bool
 is_headless None = true
 is_headless (Some head) = false
 
--- whether the function with this header, behind which lines of these forms stand, is opaque
+-- whether the function with this header, after which lines of these forms stand, is opaque
 unfoldable pub is_opaque : Outlook → Option Head → List (Option Line) → Bool
 is_opaque known head fs = known.other_pointers || is_headless head || any_foreign known.names (start 0) fs
 
@@ -79,7 +79,7 @@ abbrev pub joined : List (List ℕ) → List ℕ
 joined [] = []
 joined (l ∷ ls) = l ++ on_new_lines ls
 
--- the text of a function whose header is the line n of these, and behind which lines of these forms stand
+-- the text of a function whose header is the line n of these, and after which lines of these forms stand
 unfoldable pub text_at : List (List ℕ) → ℕ → List (Option Line) → List ℕ
 text_at ls n fs = joined (take (suc (to_brace fs)) (drop (n - 1) ls))
 

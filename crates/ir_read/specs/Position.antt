@@ -9,7 +9,7 @@ use Rattle.ir_types.specs.Formed.{is_phi}
 use Rattle.ir_draft.specs.declared.stmt.Stmt.{Stmt}
 use Rattle.ir_read.specs.declared.position.Position.{Position}
 use Rattle.ir_read.specs.declared.position.Spot.{Spot}
-use Rattle.ir_read.specs.declared.position.Spot.TheVariants.{Between, Front, Behind, Cases}
+use Rattle.ir_read.specs.declared.position.Spot.TheVariants.{Between, Front, After, Cases}
 use Rattle.ir_read.specs.declared.refusal.ReadRefusal.{ReadRefusal}
 use Rattle.ir_read.specs.declared.refusal.ReadRefusal.TheVariants.{Misplaced}
 use Rattle.ir_read.specs.Answers.{◌>>=◌}
@@ -25,13 +25,13 @@ abbrev pub is_cases : Spot → Bool
 is_cases Cases = true
 is_cases _ = false
 
--- whether an instruction may stand here: none among the cases of a switch, and a phi behind phis alone
+-- whether an instruction may stand here: none among the cases of a switch, and a phi after phis alone
 abbrev pub may_stand : Spot → Op → Bool
-may_stand Behind op = not (is_phi op)
+may_stand After op = not (is_phi op)
 may_stand Cases op = false
 may_stand _ op = true
 
--- what is open behind an instruction
+-- what is open after an instruction
 abbrev pub spot_after : Op → Spot
 spot_after (Phi blocks) = Front
 spot_after Ret = Between
@@ -39,7 +39,7 @@ spot_after (Br to) = Between
 spot_after (CondBr taken other) = Between
 spot_after (Switch default cases to) = Cases
 spot_after Unreachable = Between
-spot_after _ = Behind
+spot_after _ = After
 
 -- before the first line, where `next` is the next number
 abbrev pub start : ℕ → Position
@@ -53,25 +53,25 @@ opened p = cond (is_between p.spot) (record { next = p.next + 1; insts = p.insts
 abbrev pub in_first : Position → Bool
 in_first p = nat_eq (opened p).blocks 1
 
--- behind the line n, which is a label: the block before it must have its terminator
+-- after the line n, which is a label: the block before it must have its terminator
 unfoldable pub after_label : ℕ → Position → List ℕ → Result Position ReadRefusal
 after_label n p name =
     cond (is_between p.spot)
     (after_name n p.next name >>= (λ next. Ok (record { next = next; insts = p.insts; blocks = p.blocks + 1; spot = Front })))
     (Err (Misplaced n))
 
--- behind the line n, which is an instruction
+-- after the line n, which is an instruction
 unfoldable pub after_stmt : ℕ → Position → Stmt → Result Position ReadRefusal
 after_stmt n p s =
     cond (may_stand p.spot s.op)
     (after_result n (opened p).next s.result >>= (λ next. Ok (record { next = next; insts = p.insts + 1; blocks = (opened p).blocks; spot = spot_after s.op })))
     (Err (Misplaced n))
 
--- behind a case of a switch
+-- after a case of a switch
 unfoldable pub after_case : ℕ → Position → Result Position ReadRefusal
 after_case n p = cond (is_cases p.spot) (Ok p) (Err (Misplaced n))
 
--- behind the end of a switch
+-- after the end of a switch
 unfoldable pub after_cases : ℕ → Position → Result Position ReadRefusal
 after_cases n p = cond (is_cases p.spot) (Ok (record { next = p.next; insts = p.insts; blocks = p.blocks; spot = Between })) (Err (Misplaced n))
 

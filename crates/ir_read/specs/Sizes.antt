@@ -28,7 +28,7 @@ blocks_at between (line.Label name) = 1
 blocks_at between (line.Stmt s) = cond between 1 0
 blocks_at between _ = 0
 
--- whether none is open behind it
+-- whether none is open after it
 abbrev pub between_after : Bool → Line → Bool
 between_after between (line.Label name) = false
 between_after between (line.Stmt s) = is_between (spot_after s.op)

@@ -1,4 +1,4 @@
-//! The lines of a function: which are outside the profile, and the position behind each.
+//! The lines of a function: which are outside the profile, and the position after each.
 //!
 //! The entry points are `after_line`, and `is_foreign_line` where positions do not matter any more. A line that is both outside the
 //! profile and misplaced is outside the profile.
@@ -49,7 +49,7 @@ fn is_foreign(at: Position, op: &Op) -> bool
     }
 }
 
-/// Behind an instruction.
+/// After an instruction.
 #[tactic(auto, unfolding(crate::specs::Function::after_inst))]
 fn after_inst(names: &Names, line: u32, at: Position, stmt: &Stmt) -> Result<Position, ReadRefusal>
     ensures { Gives (λ after. after) result (function.after_inst names.now line at stmt.now) }
@@ -60,7 +60,7 @@ fn after_inst(names: &Names, line: u32, at: Position, stmt: &Stmt) -> Result<Pos
     at.after_stmt(line, stmt)
 }
 
-/// Behind a line of this form.
+/// After a line of this form.
 pub(crate) fn after_line(
     names: &Names,
     line: u32,

@@ -11,7 +11,7 @@ use crate::lines::first_line;
 use ir_types::Bytes;
 use std::alloc::{AllocError, Global};
 
-/// Adds so many lines of a text, or all, each behind a line feed.
+/// Adds so many lines of a text, or all, each after a line feed.
 fn push_on_new_lines(out: &mut Vec<u8>, bytes: &[u8], count: u32) -> Result<(), AllocError>
     ensures { OnOk result (out.new.items ≡ out.old.items ++ opaque.on_new_lines (take count (lines_of bytes.now))) }
 {
@@ -27,7 +27,7 @@ fn push_on_new_lines(out: &mut Vec<u8>, bytes: &[u8], count: u32) -> Result<(), 
     Ok(())
 }
 
-/// The first line of a text and so many behind it, or all.
+/// The first line of a text and so many after it, or all.
 pub(crate) fn joined_lines(alloc: Global, bytes: &[u8], more: u32) -> Result<Bytes, AllocError>
     ensures { IfOk result (λ text. text ≡ opaque.joined (take (suc more) (lines_of bytes.now))) }
 {

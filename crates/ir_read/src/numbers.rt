@@ -1,6 +1,6 @@
 //! The numbers of what has no name.
 //!
-//! One counter in a function numbers unnamed parameters, blocks and results. Each function gives the counter behind one of them, or
+//! One counter in a function numbers unnamed parameters, blocks and results. Each function gives the counter after one of them, or
 //! refuses the line as misplaced where a written number is not the next.
 
 ghost use Rattle.std.specs.Prelude.{◌≡◌, ◌+◌, IfOk};
@@ -39,7 +39,7 @@ fn is_next(next: u32, number: Option<u64>) -> bool
     }
 }
 
-/// The counter behind a written name: a number must be the next, and any other name takes none.
+/// The counter after a written name: a number must be the next, and any other name takes none.
 #[tactic(auto, unfolding(crate::specs::Numbers::after_name))]
 pub(crate) fn after_name(line: u32, next: u32, name: &[u8]) -> Result<u32, ReadRefusal>
     ensures { Gives (λ after. after) result (numbers.after_name line next name.now) }
@@ -54,7 +54,7 @@ pub(crate) fn after_name(line: u32, next: u32, name: &[u8]) -> Result<u32, ReadR
     }
 }
 
-/// The counter behind a result, if there is one.
+/// The counter after a result, if there is one.
 pub(crate) fn after_result(
     line: u32,
     next: u32,
@@ -68,7 +68,7 @@ pub(crate) fn after_result(
     }
 }
 
-/// The counter behind a parameter; one without a written name takes the next number.
+/// The counter after a parameter; one without a written name takes the next number.
 fn after_param(line: u32, next: u32, name: &Option<Bytes>) -> Result<u32, ReadRefusal>
     ensures { Gives (λ after. after) result (numbers.after_param line next name.now) }
 {
@@ -78,7 +78,7 @@ fn after_param(line: u32, next: u32, name: &Option<Bytes>) -> Result<u32, ReadRe
     }
 }
 
-/// The counter behind the parameters of a function.
+/// The counter after the parameters of a function.
 pub(crate) fn after_params(line: u32, params: &[Param]) -> Result<u32, ReadRefusal>
     ensures { Gives (λ after. after) result (numbers.after_params line 0 params.now) }
 {

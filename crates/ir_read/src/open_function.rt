@@ -116,7 +116,7 @@ impl OpenFunction {
         Ok(())
     }
 
-    /// Goes on behind a line that is misplaced, unless it is the brace.
+    /// Goes on after a line that is misplaced, unless it is the brace.
     fn misplace(&mut self, line: u32, form: &Line) -> Result<Verdict, ReadRefusal>
         ensures { (done : Done) → (name : Option (List ℕ)) → Gives (steps.taken line done name self.new) result (steps.misplaced line done name self.old form.now) }
     {

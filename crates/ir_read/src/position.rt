@@ -1,6 +1,6 @@
 //! `Position`: where in a function the next line stands.
 //!
-//! Each function gives the position behind a line of one kind, or refuses that line as misplaced; `passed_over` goes on behind a line
+//! Each function gives the position after a line of one kind, or refuses that line as misplaced; `passed_over` goes on after a line
 //! that may be misplaced, and counts blocks alone. A position is a few counts and
 //! what is open, so nothing here takes memory; a count that would pass its last value is answered as want of it.
 
@@ -19,12 +19,12 @@ use std::alloc::AllocError;
 /// What is open in a function.
 #[derive(Clone, Copy)]
 pub(crate) enum Spot {
-    /// No block: before the first line, or behind a terminator.
+    /// No block: before the first line, or after a terminator.
     Between,
     /// A block that has phis alone yet.
     Front,
-    /// A block behind an instruction that is no phi.
-    Behind,
+    /// A block after an instruction that is no phi.
+    After,
     /// A `switch` whose `]` has not come.
     Cases,
 }
@@ -47,7 +47,7 @@ impl Spot {
     {
         match self {
             Spot::Between => true,
-            Spot::Front | Spot::Behind | Spot::Cases => false,
+            Spot::Front | Spot::After | Spot::Cases => false,
         }
     }
 
@@ -56,7 +56,7 @@ impl Spot {
     {
         match self {
             Spot::Cases => true,
-            Spot::Between | Spot::Front | Spot::Behind => false,
+            Spot::Between | Spot::Front | Spot::After => false,
         }
     }
 
@@ -66,7 +66,7 @@ impl Spot {
     {
         match self {
             Spot::Between | Spot::Front => true,
-            Spot::Behind => !is_phi(op),
+            Spot::After => !is_phi(op),
             Spot::Cases => false,
         }
     }
@@ -81,7 +81,7 @@ fn is_phi(op: &Op) -> bool
     }
 }
 
-/// What is open behind an instruction.
+/// What is open after an instruction.
 fn spot_after(op: &Op) -> Spot
     ensures { result ≡ position.spot_after op.now }
 {
@@ -89,7 +89,7 @@ fn spot_after(op: &Op) -> Spot
         Op::Phi { .. } => Spot::Front,
         Op::Ret | Op::Br { .. } | Op::CondBr { .. } | Op::Unreachable => Spot::Between,
         Op::Switch { .. } => Spot::Cases,
-        _ => Spot::Behind,
+        _ => Spot::After,
     }
 }
 
@@ -134,7 +134,7 @@ impl Position {
         }
     }
 
-    /// Behind a label.
+    /// After a label.
     #[tactic(auto, unfolding(crate::specs::Position::after_label))]
     pub(crate) fn after_label(self, line: u32, name: &[u8]) -> Result<Position, ReadRefusal>
         ensures { Gives (λ after. after) result (position.after_label line self name.now) }
@@ -152,7 +152,7 @@ impl Position {
         })
     }
 
-    /// Behind an instruction.
+    /// After an instruction.
     #[tactic(auto, unfolding(crate::specs::Position::after_stmt))]
     pub(crate) fn after_stmt(self, line: u32, stmt: &Stmt) -> Result<Position, ReadRefusal>
         ensures { Gives (λ after. after) result (position.after_stmt line self stmt.now) }
@@ -171,7 +171,7 @@ impl Position {
         })
     }
 
-    /// Behind a case of a `switch`.
+    /// After a case of a `switch`.
     #[tactic(auto, unfolding(crate::specs::Position::after_case))]
     pub(crate) fn after_case(self, line: u32) -> Result<Position, ReadRefusal>
         ensures { Gives (λ after. after) result (position.after_case line self) }
@@ -183,7 +183,7 @@ impl Position {
         }
     }
 
-    /// Behind the end of a `switch`.
+    /// After the end of a `switch`.
     #[tactic(auto, unfolding(crate::specs::Position::after_cases))]
     pub(crate) fn after_cases(self, line: u32) -> Result<Position, ReadRefusal>
         ensures { Gives (λ after. after) result (position.after_cases line self) }
@@ -198,7 +198,7 @@ impl Position {
         }
     }
 
-    /// At the closing brace, behind the last block.
+    /// At the closing brace, after the last block.
     #[tactic(auto, unfolding(crate::specs::Position::at_close))]
     pub(crate) fn at_close(self, line: u32) -> Result<Position, ReadRefusal>
         ensures { Gives (λ after. after) result (position.at_close line self) }
@@ -210,7 +210,7 @@ impl Position {
         }
     }
 
-    /// Behind a label, whether or not it may stand here.
+    /// After a label, whether or not it may stand here.
     #[tactic(auto, unfolding(crate::specs::Opaque::passed_label))]
     fn passed_label(self) -> Result<Position, AllocError>
         ensures { IfOk result (λ after. after ≡ opaque.passed_label self) }
@@ -226,7 +226,7 @@ impl Position {
         })
     }
 
-    /// Behind an instruction, the same.
+    /// After an instruction, the same.
     #[tactic(auto, unfolding(crate::specs::Opaque::passed_stmt))]
     fn passed_stmt(self, op: &Op) -> Result<Position, AllocError>
         ensures { IfOk result (λ after. after ≡ opaque.passed_stmt self op.now) }
@@ -243,7 +243,7 @@ impl Position {
         })
     }
 
-    /// Behind the end of a `switch`, the same.
+    /// After the end of a `switch`, the same.
     #[tactic(auto, unfolding(crate::specs::Opaque::passed_end))]
     fn passed_end(self) -> Position
         ensures { result ≡ opaque.passed_end self }
@@ -258,7 +258,7 @@ impl Position {
         }
     }
 
-    /// Behind a line of this form, whether or not it may stand here.
+    /// After a line of this form, whether or not it may stand here.
     pub(crate) fn passed_over(self, form: &Line) -> Result<Position, AllocError>
         ensures { IfOk result (λ after. after ≡ opaque.passed_over self form.now) }
     {

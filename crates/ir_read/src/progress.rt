@@ -151,7 +151,7 @@ fn opened(
 }
 
 impl Faulty {
-    /// Goes on behind a line of this form; answers whether it is outside the profile.
+    /// Goes on after a line of this form; answers whether it is outside the profile.
     fn pass(&mut self, known: &Outlook, form: &Line) -> Result<bool, ReadRefusal>
         ensures { (done : Done) → Gives (steps.faulty_taken done self.new) result (steps.faulty_step known.now done self.old (Some form.now)) }
     {

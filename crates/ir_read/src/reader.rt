@@ -28,25 +28,34 @@ fn since<'a>(inside: bool, from: &'a [u8], rest: &'a [u8]) -> &'a [u8]
     if inside { from } else { rest }
 }
 
-/// One more line, which has this number; the text is that from the header of the open function on.
+/// A line of the text.
+#[derive(Clone, Copy)]
+struct TextLine<'a> {
+    /// Its number, from 1.
+    number: u32,
+    /// The text from the header of the open function on.
+    from: &'a [u8],
+    /// The bytes of the line.
+    bytes: &'a [u8],
+}
+
+/// One more line.
 fn judge_line(
     done: &mut Progress,
     alloc: Global,
     known: &Outlook,
     tokens: &mut Vec<Token>,
-    number: u32,
-    from: &[u8],
-    line: &[u8],
+    line: TextLine,
 ) -> Result<(), ReadRefusal>
-    requires short { length line.now + 1 < 2 ^ 32 }
-    requires sound { fault_of line.now ≡ None }
-    ensures { Gives (λ _. done.new) result (steps.line_step known.now number (lines_of from.now) done.old (forms.form_in (steps.is_inside done.old.current) line.now)) }
+    requires short { length line.bytes.now + 1 < 2 ^ 32 }
+    requires sound { fault_of line.bytes.now ≡ None }
+    ensures { Gives (λ _. done.new) result (steps.line_step known.now line.entry.number (lines_of line.entry.from.now) done.old (forms.form_in (steps.is_inside done.old.current) line.entry.bytes.now)) }
 {
-    if line.is_empty() {
+    if line.bytes.is_empty() {
         return Ok(());
     }
-    let form = form_in(alloc, tokens, done.is_inside(), line, number)?;
-    done.step(alloc, known, number, from, form)?;
+    let form = form_in(alloc, tokens, done.is_inside(), line.bytes, line.number)?;
+    done.step(alloc, known, line.number, line.from, form)?;
     Ok(())
 }
 
@@ -63,8 +72,13 @@ pub(crate) fn judge(alloc: Global, known: &Outlook, bytes: &[u8]) -> Result<Draf
     let mut rest = bytes;
     while !rest.is_empty() {
         from = since(done.is_inside(), from, rest);
-        let (line, after) = first_line(rest);
-        judge_line(&mut done, alloc, known, &mut tokens, number, from, line)?;
+        let (bytes, after) = first_line(rest);
+        let line = TextLine {
+            number,
+            from,
+            bytes,
+        };
+        judge_line(&mut done, alloc, known, &mut tokens, line)?;
         number += 1;
         rest = after;
     }

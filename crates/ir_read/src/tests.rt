@@ -29,7 +29,7 @@ const DRAFTS: [&[u8]; 21] = [
     b"define i32 @a(i32, i32 %1, i32 %n) {\n  %3 = add i32 %0, %1\n  br label %4\n\n4:\n  %5 = add i32 %3, %n\n  ret i32 %5\n}\n",
     b"define i32 @a(i32 %0) {\n  %002 = add i32 %0, %0\n  ret i32 %2\n}\n",
     b"define void @a() {\n0:\n  br label %1\n1:\n  ret void\n}\n",
-    // a block without a label, behind a terminator and first
+    // a block without a label, after a terminator and first
     b"define void @a() {\n  br label %1\n  ret void\n}\n",
     // an instruction without a result takes no number
     b"define void @a(ptr %p) {\n  store i8 1, ptr %p\n  %1 = load i8, ptr %p\n  ret void\n}\n",
@@ -154,7 +154,7 @@ fn misplaced_lines(rt: HostRuntime) {
         misplaced(b"define void @a() {\n  ret void", 3),
         misplaced(b"define void @a() {\n  ret void\n\n", 4),
         misplaced(b"define void @a() {", 2),
-        // a phi behind another instruction
+        // a phi after another instruction
         misplaced(
             b"define void @a() {\n  %x = add i8 1, 2\n  %y = phi i8 [ 1, %b ]\n  ret void\n}\n",
             3,

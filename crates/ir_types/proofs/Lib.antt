@@ -3,3 +3,4 @@ pub mod IdTables
 pub mod Formed
 pub mod Among
 pub mod Renumbered
+pub mod SameTypes

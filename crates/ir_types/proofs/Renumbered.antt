@@ -249,7 +249,7 @@ module _ (ids : List Id) where
     header = record {
       in_front = h.header.in_front;
       attributed = All-map (λ (p : Param). IsAttributes p.noalias p.attrs) (new_param ids) f.params h.header.attributed;
-      behind = h.header.behind;
+      at_end = h.header.at_end;
     };
     named = h.named;
     params = All-map (λ (p : Param). is_plain p.name ≡ true) (new_param ids) f.params h.params;

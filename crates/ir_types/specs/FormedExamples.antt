@@ -74,15 +74,15 @@ formed = record {
   nothing = record { sound = refl; ends = refl; tight = refl; ascii = refl }
 
   kept : IsKeptHeader [] [] []
-  kept = record { in_front = record { kept = nothing; passed = refl }; attributed = All-nil _; behind = nothing }
+  kept = record { in_front = record { kept = nothing; passed = refl }; attributed = All-nil _; at_end = nothing }
 
   named : IsPlainFunc func
   named = record { header = kept; named = refl; params = All-nil _; blocks = All-cons IsPlainBlock _ [] unnamed (All-nil IsPlainBlock) }
 
--- a function that keeps an open string behind its parameters is not formed
+-- a function that keeps an open string after its parameters is not formed
 unclosed : IsPlainFunc (record { before = []; ret = Void; name = codes "f"; params = []; after = codes "gc \"x"; blocks = [] }) → ⊥
 unfolding string_len more_len begins_name is_word_byte is_sigil is_mark is_blank is_control
-unclosed h = let sound : fault_of (codes "gc \"x") ≡ None = h.header.behind.sound in cc
+unclosed h = let sound : fault_of (codes "gc \"x") ≡ None = h.header.at_end.sound in cc
 
 -- a block without an instruction does not end, and none ends twice
 never : EndsOnce [] → ⊥

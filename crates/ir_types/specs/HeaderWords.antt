@@ -26,7 +26,7 @@ abbrev pub is_digits : List ℕ → Bool
 is_digits [] = false
 is_digits (b ∷ bs) = list_all is_ascii_digit (b ∷ bs)
 
--- whether a word is a symbol by a plain name: `@`, and behind it no quote
+-- whether a word is a symbol by a plain name: `@`, and after it no quote
 abbrev pub is_unquoted : List ℕ → Bool
 is_unquoted [] = false
 is_unquoted (b ∷ bs) = not (nat_eq b quote)
@@ -35,7 +35,7 @@ abbrev pub is_plain_symbol : List ℕ → Bool
 is_plain_symbol [] = false
 is_plain_symbol (b ∷ bs) = nat_eq b 64 && is_unquoted bs
 
--- how many parentheses are open behind a word, where so many were open before it
+-- how many parentheses are open after a word, where so many were open before it
 abbrev pub depth_after : ℕ → List ℕ → ℕ
 depth_after d t = cond (bytes_eq t (codes "(")) (d + 1) (cond (bytes_eq t (codes ")")) (d - 1) d)
 
@@ -48,7 +48,7 @@ is_attribute (b ∷ bs) = is_ascii_alphabetic b || is_digits (b ∷ bs) || nat_e
 abbrev pub goes_on : ℕ → List ℕ → Bool
 goes_on d t = not (nat_eq d 0) || is_attribute t || bytes_eq t (codes "(")
 
--- whether these words, with d parentheses open before them, are attributes, and all parentheses are closed behind them
+-- whether these words, with d parentheses open before them, are attributes, and all parentheses are closed after them
 abbrev pub are_attributes : ℕ → List (List ℕ) → Bool
 are_attributes d [] = nat_eq d 0
 are_attributes d (t ∷ ts) = goes_on d t && are_attributes (depth_after d t) ts
@@ -70,7 +70,7 @@ opens [] = false
 opens (t ∷ ts) = bytes_eq t (codes "(")
 
 -- whether a reader that looks for the function's name, with d parentheses open, passes over these words and is outside parentheses
--- behind them: none outside is a plain symbol that has `(` behind it, and no `)` stands without its `(`
+-- after them: none outside is a plain symbol that has `(` after it, and no `)` stands without its `(`
 abbrev pub are_passed : ℕ → List (List ℕ) → Bool
 are_passed d [] = nat_eq d 0
 are_passed d (t ∷ ts) = not (nat_eq d 0 && is_plain_symbol t && opens ts) && (not (nat_eq d 0 && bytes_eq t (codes ")")) && are_passed (depth_after d t) ts)

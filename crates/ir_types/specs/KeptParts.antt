@@ -1,4 +1,4 @@
--- The parts of a header that are kept as bytes: what stands before the type, the attributes of a parameter, and what stands behind
+-- The parts of a header that are kept as bytes: what stands before the type, the attributes of a parameter, and what stands after
 -- the parameters.
 --
 -- Such a part means nothing, but what is kept is printed, and what is printed must be read again as the same. So each is described as
@@ -16,7 +16,7 @@ use Rattle.ir_types.specs.HeaderWords.{span, begins_ascii, are_passed, are_attri
 pub record IsKeptPart (part : List ℕ) : Type 0 where
   -- no control byte, and no string that does not close
   pub sound : fault_of part ≡ None
-  -- no comment, so that what is printed behind the part is read as it would be alone
+  -- no comment, so that what is printed after the part is read as it would be alone
   pub ends : ends_outside part ≡ true
   -- the bytes from the first to the last token are all of them
   pub tight : span part (cut part) ≡ part
@@ -39,7 +39,7 @@ pub record IsAttributes (noalias : Bool) (part : List ℕ) : Type 0 where
 pub record IsKeptHeader (before : List ℕ) (params : List Param) (after : List ℕ) : Type 0 where
   pub in_front : IsBefore before
   pub attributed : All (λ (p : Param). IsAttributes p.noalias p.attrs) params
-  pub behind : IsKeptPart after
+  pub at_end : IsKeptPart after
 
 -- attributes with a string in them are such a part
 section : IsKeptPart (codes "section \"a;b\" align 8")

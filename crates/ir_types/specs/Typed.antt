@@ -3,7 +3,7 @@
 -- Widths are 1, 8, 16, 32 and 64 bits; a vector has 2, 4, 8 or 16 lanes and at most 512 bits. `IsTyped` has one row a form: the
 -- type that the instruction gives, the types of its operands in order, and what its own parts must be. (Language Reference,
 -- "Type System" and "Instruction Reference".) What a call gives and takes, its callee's header says; see `Formed`.
-use Rattle.std.specs.Prelude.{◌≡◌, refl, ℕ, ◌*◌, ◌^◌, ◌<◌, ◌≤◌, ◌⊎◌, Bool, true, false, not, ◌&&◌, ◌||◌, ◌==◌, nat_le, List, [], ◌∷◌, length}
+use Rattle.std.specs.Prelude.{◌≡◌, refl, ℕ, ◌*◌, ◌^◌, ◌<◌, ◌≤◌, ◌⊎◌, Bool, true, false, not, ◌&&◌, ◌||◌, ◌==◌, nat_eq, nat_le, List, [], ◌∷◌, length}
 use Rattle.std.specs.List.{All, AllPairs}
 use Rattle.std.specs.declared.option.Option.{Option}
 use Rattle.std.specs.declared.option.Option.TheVariants.{None, Some}
@@ -51,6 +51,14 @@ abbrev pub lane_width : Ty → ℕ
 lane_width (Int w) = w
 lane_width (Row n w) = w
 lane_width _ = 0
+
+-- whether both are one type
+abbrev pub same_ty : Ty → Ty → Bool
+same_ty Void Void = true
+same_ty (Int w) (Int v) = nat_eq w v
+same_ty Ptr Ptr = true
+same_ty (Row n w) (Row m v) = nat_eq n m && nat_eq w v
+same_ty _ _ = false
 
 abbrev pub lane_count : Ty → ℕ
 lane_count (Row n w) = n

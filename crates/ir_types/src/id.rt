@@ -2,6 +2,9 @@
 //!
 //! Nothing here fails.
 
+ghost use Rattle.std.specs.Prelude.{◌≡◌};
+ghost use Rattle.ir_types.specs.Available.{same_id};
+
 use std::alloc::{AllocError, Global};
 use vx_list::{Equal, TryClone};
 
@@ -30,6 +33,15 @@ pub struct Use {
     pub user: Id,
     /// Counts the instruction's operands from 0.
     pub slot: u32,
+}
+
+impl Id {
+    /// Whether both are one id.
+    pub fn same(self, id: Id) -> bool
+        ensures { result ≡ same_id self id }
+    {
+        self.region == id.region && self.k == id.k
+    }
 }
 
 impl TryClone for Id {

@@ -1,10 +1,10 @@
 //! `Lits`: the lanes of a literal, the entries of a mask, the numbers of cases.
 //!
 //! Contracts see them as the list of the lanes. Most literals are scalars: a single lane lies in place and takes no memory, and
-//! from two lanes on they stand behind one pointer, so that an operand is small. Since a single lane is not kept as a slice,
+//! from two lanes on they stand after one pointer, so that an operand is small. Since a single lane is not kept as a slice,
 //! `as_lanes` gives the lanes in a form that has one. Nothing here fails but for want of memory.
 
-ghost use Rattle.std.specs.Prelude.{◌≡◌, ◌==◌, ◌∷◌, ◌++◌, [], length, slice_get, IfOk, OnOk, OnErr};
+ghost use Rattle.std.specs.Prelude.{◌≡◌, ◌==◌, ◌∷◌, ◌++◌, [], length, replicate, slice_get, IfOk, OnOk, OnErr};
 
 use std::alloc::{AllocError, Global};
 use std::marker::Model;
@@ -78,7 +78,7 @@ fn kept_lane(lane: Lane) -> Kept
     }
 }
 
-/// Two lanes, behind a pointer.
+/// Two lanes, after a pointer.
 fn kept_lanes_two(alloc: Global, first: Lane, second: Lane) -> Result<Kept, AllocError>
     ensures { IfOk result (λ kept. kept_lanes kept ≡ first ∷ second ∷ []) }
 {
@@ -137,6 +137,17 @@ impl Lits {
             kept: Kept::Empty,
             alloc,
         }
+    }
+
+    /// The same lane so many times.
+    pub fn repeated(alloc: Global, n: u8, lane: Lane) -> Result<Lits, AllocError>
+        ensures { IfOk result (λ x. x ≡ replicate n lane) }
+    {
+        let mut lanes = Lits::new(alloc);
+        'each: for _ in 0..n {
+            lanes.push(lane)?;
+        }
+        Ok(lanes)
     }
 
     /// The lanes, to be read.

@@ -1,7 +1,7 @@
 //! What an instruction does, apart from its operands: one variant a form.
 //!
 //! A block is named by its number from 0 in its function. Aligns are powers of two from 1 to 2^32, in bytes. The parts of a `call`
-//! stand behind a pointer, so that the other forms are small; contracts see through it.
+//! stand after a pointer, so that the other forms are small; contracts see through it.
 
 ghost use Rattle.std.specs.Prelude.{◌≡◌, IfOk};
 

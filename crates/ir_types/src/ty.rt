@@ -2,6 +2,9 @@
 //!
 //! Nothing here fails. Widths are in bits: 1, 8, 16, 32 or 64. A vector has 2, 4, 8 or 16 lanes and at most 512 bits.
 
+ghost use Rattle.std.specs.Prelude.{◌≡◌};
+ghost use Rattle.ir_types.specs.Typed.{lane_width, same_ty};
+
 use std::alloc::{AllocError, Global};
 use vx_list::{Equal, TryClone};
 
@@ -25,6 +28,32 @@ pub enum Elem {
     One(Ty),
     /// An array of `n` integers of `w` bits.
     Array { n: u64, w: u8 },
+}
+
+impl Ty {
+    /// The bits of an integer, or of a lane of a vector; 0 of other types.
+    pub fn lane_width(self) -> u8
+        ensures { result ≡ lane_width self }
+    {
+        match self {
+            Ty::Int(w) => w,
+            Ty::Row { n: _, w } => w,
+            Ty::Void | Ty::Ptr => 0,
+        }
+    }
+
+    /// Whether both are one type.
+    pub fn same(self, ty: Ty) -> bool
+        ensures { result ≡ same_ty self ty }
+    {
+        match (self, ty) {
+            (Ty::Void, Ty::Void) => true,
+            (Ty::Int(w), Ty::Int(v)) => w == v,
+            (Ty::Ptr, Ty::Ptr) => true,
+            (Ty::Row { n, w }, Ty::Row { n: m, w: v }) => n == m && w == v,
+            _ => false,
+        }
+    }
 }
 
 impl TryClone for Ty {

@@ -14,7 +14,7 @@ use Rattle.ir_draft.specs.declared.line.Line.{Line}
 use Rattle.ir_draft.specs.declared.line.Line.TheVariants as line
 use Rattle.ir_draft.specs.declared.draft.Numbered.{Numbered}
 use Rattle.ir_line.proofs.Bodies as stage
-use Rattle.ir_line.proofs.Bodies.{Stage, May, stage_after, begun, IsStmtAt, Stands, stage_behind, begun_behind, IsBodyFrom, IsBody}
+use Rattle.ir_line.proofs.Bodies.{Stage, May, stage_after, begun, IsStmtAt, Stands, stage_after_line, begun_after, IsBodyFrom, IsBody}
 use Rattle.ir_types_check.specs.declared.outline.At.{At}
 use Rattle.ir_types_check.specs.declared.locals.Meaning.{Meaning}
 use Rattle.ir_types_check.specs.declared.tops.Top.{Top}
@@ -22,18 +22,18 @@ use Rattle.ir_types_check.specs.declared.links.Linked.{Linked}
 use Rattle.ir_types_check.specs.declared.links.Cases.{Cases}
 use Rattle.ir_types_check.specs.declared.building.Built.{Built}
 use Rattle.ir_types_check.specs.Scope.{Scope}
-use Rattle.ir_types_check.specs.Outline.{opened, behind_label, behind_inst, behind, block_here}
+use Rattle.ir_types_check.specs.Outline.{opened, after_label, after_inst, past, block_here}
 use Rattle.ir_types_check.specs.Links.{linked, cases_of, op_of}
 use Rattle.ir_types_check.specs.Blocks.{inst_of, closed, open_block, with_last, settled, with_inst, labelled, with_statement, built_line, built_lines}
 use Rattle.ir_types_check.specs.Typed.{with_line_edges, sources_from, line_typed, lines_typed}
 use Rattle.ir_types_check.proofs.Binding.{bind_ok, ok_is, both, clash}
-use Rattle.ir_types_check.proofs.BodyScope.{behind_all}
+use Rattle.ir_types_check.proofs.BodyScope.{after_all}
 
 -- ---- where a line stands
 
 unfoldable pub is_open : Stage → Bool
 is_open stage.Front = true
-is_open stage.Behind = true
+is_open stage.After = true
 is_open stage.Between = false
 is_open stage.Cases = false
 
@@ -45,7 +45,7 @@ pub opened_blocks : (st : Stage) (n : ℕ) (at : At) (op : Op) → AtStage st n 
 unfolding opened is_open
 opened_blocks stage.Between n at op h m = ap (λ b. (cond b at (record { next = at.next + 1; place = at.place; blocks = at.blocks + 1; is_open = true })).blocks) h.opens ∙ ap (λ k. k + 1) h.blocks
 opened_blocks stage.Front n at op h m = ap (λ b. (cond b at (record { next = at.next + 1; place = at.place; blocks = at.blocks + 1; is_open = true })).blocks) h.opens ∙ h.blocks
-opened_blocks stage.Behind n at op h m = ap (λ b. (cond b at (record { next = at.next + 1; place = at.place; blocks = at.blocks + 1; is_open = true })).blocks) h.opens ∙ h.blocks
+opened_blocks stage.After n at op h m = ap (λ b. (cond b at (record { next = at.next + 1; place = at.place; blocks = at.blocks + 1; is_open = true })).blocks) h.opens ∙ h.blocks
 opened_blocks stage.Cases n at op h m = absurd m
 
 after_open : (op : Op) → not (is_terminator op) ≡ is_open (stage_after op)
@@ -58,28 +58,28 @@ after_open (ops.Switch other cases to) = refl
 after_open ops.Unreachable = refl
 after_open _ = refl
 
-pub at_behind : (st : Stage) (n : ℕ) (at : At) (form : Line) → AtStage st n at → Stands st n form → AtStage (stage_behind st form) (begun_behind st n form) (behind at form)
-unfolding behind_label behind_inst is_open
-at_behind st n at line.Empty h s = absurd s
-at_behind st n at (line.Kept kept) h s = absurd s
-at_behind st n at (line.Define name head) h s = absurd s
-at_behind st n at line.Close h s = absurd s
-at_behind st n at (line.Label name) h s = record { blocks = ap (λ k. k + 1) h.blocks; opens = refl }
-at_behind st n at (line.Stmt s) h i = record { blocks = opened_blocks st n at s.op h i.stands; opens = after_open s.op }
-at_behind st n at (line.Case value label) h s = h
-at_behind stage.Cases n at line.CasesEnd h s = record { blocks = h.blocks; opens = h.opens }
-at_behind stage.Between n at line.CasesEnd h s = absurd s
-at_behind stage.Front n at line.CasesEnd h s = absurd s
-at_behind stage.Behind n at line.CasesEnd h s = absurd s
+pub at_after : (st : Stage) (n : ℕ) (at : At) (form : Line) → AtStage st n at → Stands st n form → AtStage (stage_after_line st form) (begun_after st n form) (past at form)
+unfolding after_label after_inst is_open
+at_after st n at line.Empty h s = absurd s
+at_after st n at (line.Kept kept) h s = absurd s
+at_after st n at (line.Define name head) h s = absurd s
+at_after st n at line.Close h s = absurd s
+at_after st n at (line.Label name) h s = record { blocks = ap (λ k. k + 1) h.blocks; opens = refl }
+at_after st n at (line.Stmt s) h i = record { blocks = opened_blocks st n at s.op h i.stands; opens = after_open s.op }
+at_after st n at (line.Case value label) h s = h
+at_after stage.Cases n at line.CasesEnd h s = record { blocks = h.blocks; opens = h.opens }
+at_after stage.Between n at line.CasesEnd h s = absurd s
+at_after stage.Front n at line.CasesEnd h s = absurd s
+at_after stage.After n at line.CasesEnd h s = absurd s
 
 -- how many blocks have begun at the end
 abbrev pub begun_all : Stage → ℕ → List Numbered → ℕ
 begun_all st n [] = n
-begun_all st n (x ∷ xs) = begun_all (stage_behind st x.form) (begun_behind st n x.form) xs
+begun_all st n (x ∷ xs) = begun_all (stage_after_line st x.form) (begun_after st n x.form) xs
 
-pub at_end : (st : Stage) (n : ℕ) (at : At) (body : List Numbered) → AtStage st n at → IsBodyFrom st n body → (behind_all at body).blocks ≡ begun_all st n body
+pub at_end : (st : Stage) (n : ℕ) (at : At) (body : List Numbered) → AtStage st n at → IsBodyFrom st n body → (after_all at body).blocks ≡ begun_all st n body
 at_end st n at [] h b = h.blocks
-at_end st n at (x ∷ xs) h b = at_end (stage_behind st x.form) (begun_behind st n x.form) (behind at x.form) xs (at_behind st n at x.form h b.0) b.1
+at_end st n at (x ∷ xs) h b = at_end (stage_after_line st x.form) (begun_after st n x.form) (past at x.form) xs (at_after st n at x.form h b.0) b.1
 
 -- ---- operations
 
@@ -100,7 +100,7 @@ op_stage blocks cases _ = refl
 pub op_may : (st : Stage) (blocks : List ℕ) (cases : Cases) (op : Op) → May st op → May st (op_of blocks cases op)
 op_may stage.Between blocks cases op m = tt
 op_may stage.Front blocks cases op m = tt
-op_may stage.Behind blocks cases op m = op_phi blocks cases op ∙ m
+op_may stage.After blocks cases op m = op_phi blocks cases op ∙ m
 op_may stage.Cases blocks cases op m = m
 
 -- the parts of an instruction that a statement is
@@ -147,7 +147,7 @@ abbrev pub IsOpenBlock : Stage → Option Block → Type 0
 IsOpenBlock stage.Between None = Unit {0}
 IsOpenBlock stage.Cases None = Unit {0}
 IsOpenBlock stage.Front (Some block) = (unended block.insts ≡ true) × (all_phis block.insts ≡ true)
-IsOpenBlock stage.Behind (Some block) = (unended block.insts ≡ true) × PhisFirst true block.insts
+IsOpenBlock stage.After (Some block) = (unended block.insts ≡ true) × PhisFirst true block.insts
 IsOpenBlock _ _ = ⊥
 
 phis_any : (insts : List Inst) (i : Inst) → all_phis insts ≡ true → PhisFirst true (insts ++ i ∷ [])
@@ -174,7 +174,7 @@ ends_more (x ∷ xs) i h e = ends_at x xs i h e
 
 unfoldable pub opens : Stage → ℕ
 opens stage.Front = 1
-opens stage.Behind = 1
+opens stage.After = 1
 opens stage.Between = 0
 opens stage.Cases = 0
 
@@ -183,7 +183,7 @@ pub record Sim (st : Stage) (n : ℕ) (b : Built) : Type 0 where
   pub done : All IsWholeBlock b.blocks
   pub count : n ≡ length b.blocks + opens st
 
--- an instruction that may stand there, put behind those of the open block
+-- an instruction that may stand there, put after those of the open block
 record Room (st : Stage) (n : ℕ) (b : Built) (op : Op) : Type 0 where
   none : unended (open_block b.current).insts ≡ true
   phis : (i : Inst) → i.op ≡ op → PhisFirst true ((open_block b.current).insts ++ i ∷ [])
@@ -203,8 +203,8 @@ room st n b op h m = here st b.current refl h.current h.count m where
   here stage.Front (Some block) is o c m =
       let e : (open_block b.current).insts ≡ block.insts = ap (λ x. (open_block x).insts) is in
       record { none = ap unended e ∙ o.0; phis = λ i s. subst (λ xs. PhisFirst true (xs ++ i ∷ [])) (sym e) (phis_any block.insts i o.1); front = λ p. ap all_phis e ∙ o.1; count = c }
-  here stage.Behind None is o c m = absurd o
-  here stage.Behind (Some block) is o c m =
+  here stage.After None is o c m = absurd o
+  here stage.After (Some block) is o c m =
       let e : (open_block b.current).insts ≡ block.insts = ap (λ x. (open_block x).insts) is in
       record {
         none = ap unended e ∙ o.0;
@@ -219,7 +219,7 @@ begins_at st n b op h m = (room st n b op h m).count
 data Sort (op : Op) : Type 0 where
   Ends : is_terminator op ≡ true → IsOpenBlock (stage_after op) None → opens (stage_after op) ≡ 0 → Sort op
   IsPhi : is_terminator op ≡ false → is_phi op ≡ true → stage_after op ≡ stage.Front → Sort op
-  Other : is_terminator op ≡ false → stage_after op ≡ stage.Behind → Sort op
+  Other : is_terminator op ≡ false → stage_after op ≡ stage.After → Sort op
 
 sort_of : (op : Op) → Sort op
 unfolding opens
@@ -263,14 +263,14 @@ pub none_open : (st : Stage) (current : Option Block) → stage.IsBetween st →
 none_open stage.Between None s o = refl
 none_open stage.Between (Some block) s o = absurd o
 none_open stage.Front current s o = absurd s
-none_open stage.Behind current s o = absurd s
+none_open stage.After current s o = absurd s
 none_open stage.Cases current s o = absurd s
 
 pub none_opens : (st : Stage) → stage.IsBetween st → opens st ≡ 0
 unfolding opens
 none_opens stage.Between s = refl
 none_opens stage.Front s = absurd s
-none_opens stage.Behind s = absurd s
+none_opens stage.After s = absurd s
 none_opens stage.Cases s = absurd s
 
 sim_label : (st : Stage) (n : ℕ) (b : Built) (name : List ℕ) → stage.IsBetween st → Sim st n b → Sim stage.Front (n + 1) (labelled b name)
@@ -292,7 +292,7 @@ sim_end stage.Cases n b s h = here b.current refl h.current where
   here (Some block) is o = absurd o
 sim_end stage.Between n b s h = absurd s
 sim_end stage.Front n b s h = absurd s
-sim_end stage.Behind n b s h = absurd s
+sim_end stage.After n b s h = absurd s
 
 -- ---- going through the lines
 
@@ -316,25 +316,25 @@ pub record IsStep (tops : Scope Top) (locals : Scope Meaning) (ret : Ty) (edges 
 -- what stays true from line to line
 pub record Stays (tops : Scope Top) (locals : Scope Meaning) (ret : Ty) (edges : List (List ℕ)) (base : ℕ) (Inv : At → List (List ℕ) → Built → List Numbered → Type 0) : Type 0 where
   pub on_label : (at : At) (S : List (List ℕ)) (b : Built) (k : ℕ) (name : List ℕ) (rest : List Numbered) → b.current ≡ None →
-      Inv at S b (record { line = k; form = line.Label name } ∷ rest) → Inv (behind_label at name) S (labelled b name) rest
+      Inv at S b (record { line = k; form = line.Label name } ∷ rest) → Inv (after_label at name) S (labelled b name) rest
   pub on_case : (at : At) (S : List (List ℕ)) (b : Built) (k : ℕ) (value : Literal) (label : List ℕ) (rest : List Numbered) →
       Inv at S b (record { line = k; form = line.Case value label } ∷ rest) → Inv at S b rest
   pub on_end : (at : At) (S : List (List ℕ)) (b : Built) (k : ℕ) (rest : List Numbered) → Inv at S b (record { line = k; form = line.CasesEnd } ∷ rest) → Inv at S b rest
   pub on_stmt : (at : At) (S : List (List ℕ)) (b : Built) (k : ℕ) (s : Stmt) (rest : List Numbered) (inst : Inst) → IsStep tops locals ret edges base at b k s rest inst →
-      Inv at S b (record { line = k; form = line.Stmt s } ∷ rest) → Inv (behind_inst (opened at) s) (with_line_edges locals at S (line.Stmt s) rest) (with_inst k b inst) rest
+      Inv at S b (record { line = k; form = line.Stmt s } ∷ rest) → Inv (after_inst (opened at) s) (with_line_edges locals at S (line.Stmt s) rest) (with_inst k b inst) rest
 
 module _ (tops : Scope Top) (locals : Scope Meaning) (ret : Ty) (edges : List (List ℕ)) (base : ℕ) (Inv : At → List (List ℕ) → Built → List Numbered → Type 0) (stays : Stays tops locals ret edges base Inv) where
   line_goes : (st : Stage) (n : ℕ) (at : At) (S : List (List ℕ)) (b after : Built) (k : ℕ) (form : Line) (rest : List Numbered) (u : Unit {0}) → Sim st n b → AtStage st n at →
-      Stands st n form → IsBodyFrom (stage_behind st form) (begun_behind st n form) rest → Inv at S b (record { line = k; form = form } ∷ rest) →
+      Stands st n form → IsBodyFrom (stage_after_line st form) (begun_after st n form) rest → Inv at S b (record { line = k; form = form } ∷ rest) →
       built_line tops locals base k b form rest ≡ Ok after → line_typed tops locals ret edges at k form rest ≡ Ok u →
-      Inv (behind at form) (with_line_edges locals at S form rest) after rest × Sim (stage_behind st form) (begun_behind st n form) after
+      Inv (past at form) (with_line_edges locals at S form rest) after rest × Sim (stage_after_line st form) (begun_after st n form) after
   unfolding with_statement
   line_goes st n at S b after k line.Empty rest u sim h s more inv e t = absurd s
   line_goes st n at S b after k (line.Kept kept) rest u sim h s more inv e t = absurd s
   line_goes st n at S b after k (line.Define name head) rest u sim h s more inv e t = absurd s
   line_goes st n at S b after k line.Close rest u sim h s more inv e t = absurd s
   line_goes st n at S b after k (line.Label name) rest u sim h s more inv e t =
-      subst (λ x. Inv (behind_label at name) S x rest × Sim stage.Front (n + 1) x) (ok_is e)
+      subst (λ x. Inv (after_label at name) S x rest × Sim stage.Front (n + 1) x) (ok_is e)
       (stays.on_label at S b k name rest (none_open st b.current s sim.current) inv, sim_label st n b name s sim)
   line_goes st n at S b after k (line.Stmt s) rest u sim h i more inv e t =
       bind_ok (inst_of tops locals base (length b.lines) k s rest) _ after e (λ inst was is.
@@ -346,7 +346,7 @@ module _ (tops : Scope Top) (locals : Scope Meaning) (ret : Ty) (edges : List (L
       record { st = st; n = n; stands = i; later = more; here = omega (arith, opened_is, begins); begins = begins; parts = p; unit = u; typed = t } in
       let after_is : Sim (stage_after s.op) (begun st n) (with_inst k b inst) =
       subst (λ x. Sim x (begun st n) (with_inst k b inst)) (ap stage_after p.op ∙ op_stage p.links.blocks p.cases s.op) (sim_inst st n k b inst sim m) in
-      subst (λ x. Inv (behind_inst (opened at) s) (with_line_edges locals at S (line.Stmt s) rest) x rest × Sim (stage_after s.op) (begun st n) x) (ok_is is)
+      subst (λ x. Inv (after_inst (opened at) s) (with_line_edges locals at S (line.Stmt s) rest) x rest × Sim (stage_after s.op) (begun st n) x) (ok_is is)
       (stays.on_stmt at S b k s rest inst step inv, after_is))
   line_goes st n at S b after k (line.Case value label) rest u sim h s more inv e t = subst (λ x. Inv at S x rest × Sim st n x) (ok_is e) (stays.on_case at S b k value label rest inv, sim)
   line_goes st n at S b after k line.CasesEnd rest u sim h s more inv e t =
@@ -354,13 +354,13 @@ module _ (tops : Scope Top) (locals : Scope Meaning) (ret : Ty) (edges : List (L
 
   pub goes : (st : Stage) (n : ℕ) (at : At) (S : List (List ℕ)) (b after : Built) (body : List Numbered) (u : Unit {0}) → Sim st n b → AtStage st n at → IsBodyFrom st n body → Inv at S b body →
       built_lines tops locals base b body ≡ Ok after → lines_typed tops locals ret edges at body ≡ Ok u →
-      Inv (behind_all at body) (sources_from locals at S body) after [] × Ended after (begun_all st n body)
+      Inv (after_all at body) (sources_from locals at S body) after [] × Ended after (begun_all st n body)
   goes st n at S b after [] u sim h s inv e t =
       let none : b.current ≡ None = none_open st b.current s.0 sim.current in
       subst (λ x. Inv at S x [] × Ended x n) (ok_is e) (inv, record { current = none; done = sim.done; count = omega (arith, sim.count, none_opens st s.0) })
   goes st n at S b after (x ∷ xs) u sim h s inv e t =
       bind_ok (built_line tops locals base x.line b x.form xs) _ after e (λ m was now.
       bind_ok (line_typed tops locals ret edges at x.line x.form xs) _ u t (λ v typed then'.
-      let g : Inv (behind at x.form) (with_line_edges locals at S x.form xs) m xs × Sim (stage_behind st x.form) (begun_behind st n x.form) m =
+      let g : Inv (past at x.form) (with_line_edges locals at S x.form xs) m xs × Sim (stage_after_line st x.form) (begun_after st n x.form) m =
       line_goes st n at S b m x.line x.form xs v sim h s.0 s.1 inv was typed in
-      goes (stage_behind st x.form) (begun_behind st n x.form) (behind at x.form) (with_line_edges locals at S x.form xs) m after xs u g.1 (at_behind st n at x.form h s.0) s.1 g.0 now then'))
+      goes (stage_after_line st x.form) (begun_after st n x.form) (past at x.form) (with_line_edges locals at S x.form xs) m after xs u g.1 (at_after st n at x.form h s.0) s.1 g.0 now then'))

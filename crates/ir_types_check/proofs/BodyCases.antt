@@ -8,22 +8,23 @@ use Rattle.ir_types.specs.declared.ty.Ty.{Ty}
 use Rattle.ir_types.specs.declared.ty.Ty.TheVariants.{Int}
 use Rattle.ir_types.specs.declared.op.Op.{Op}
 use Rattle.ir_types.specs.declared.op.Op.TheVariants as ops
-use Rattle.ir_types.specs.Typed.{IsCase}
+use Rattle.ir_types.specs.Typed.{IsCase, same_ty}
 use Rattle.ir_draft.specs.declared.stmt.Stmt.{Stmt}
 use Rattle.ir_draft.specs.declared.line.Line.{Line}
 use Rattle.ir_draft.specs.declared.line.Line.TheVariants as line
 use Rattle.ir_draft.specs.declared.draft.Numbered.{Numbered}
 use Rattle.ir_line.specs.Sound.{IsSoundCase}
-use Rattle.ir_line.proofs.Bodies.{Stage, Stands, stage_behind, begun_behind, IsBodyFrom}
+use Rattle.ir_line.proofs.Bodies.{Stage, Stands, stage_after_line, begun_after, IsBodyFrom}
 use Rattle.ir_types_check.specs.declared.locals.Meaning.{Meaning}
 use Rattle.ir_types_check.specs.declared.links.Cases.{Cases}
 use Rattle.ir_types_check.specs.Answers.{well_typed}
 use Rattle.ir_types_check.specs.Scope.{Scope}
 use Rattle.ir_types_check.specs.Links.{lane_of, Choice, choice_before, choices, cases_of}
-use Rattle.ir_types_check.specs.Typed.{same_ty, first_ty, number_of, is_target, choice_targets, case_targets, lane_number, case_number, with_number, choice_fits, choices_typed, cases_typed}
+use Rattle.ir_types_check.specs.Typed.{first_ty, number_of, is_target, choice_targets, case_targets, lane_number, case_number, with_number, choice_fits, choices_typed, cases_typed}
 use Rattle.ir_types_check.proofs.Binding.{bind_ok, some_is, clash, both, not_true, typed_line}
 use Rattle.ir_types_check.proofs.BodyLinks.{AreCases, cases_are}
-use Rattle.ir_types_check.proofs.BodyTypes.{same_is, map_length, FitIfSwitch}
+use Rattle.ir_types.proofs.SameTypes.{same_is}
+use Rattle.ir_types_check.proofs.BodyTypes.{map_length, FitIfSwitch}
 
 abbrev IsSoundChoice : Choice → Type 0
 IsSoundChoice c = IsSoundCase c.value
@@ -31,7 +32,7 @@ IsSoundChoice c = IsSoundCase c.value
 -- the cases in a body are sound
 choices_sound : (st : Stage) (n : ℕ) (body : List Numbered) → IsBodyFrom st n body → All IsSoundChoice (choices body)
 choices_sound st n [] h = All-nil IsSoundChoice
-choices_sound st n (x ∷ xs) h = here x.form h.0 (choices_sound (stage_behind st x.form) (begun_behind st n x.form) xs h.1) where
+choices_sound st n (x ∷ xs) h = here x.form h.0 (choices_sound (stage_after_line st x.form) (begun_after st n x.form) xs h.1) where
   here : (form : Line) → Stands st n form → All IsSoundChoice (choices xs) → All IsSoundChoice (choice_before x.line form (choices xs))
   here (line.Case value label) s more = All-cons IsSoundChoice (record { line = x.line; value = value; label = label }) (choices xs) s more
   here _ s more = All-nil IsSoundChoice

@@ -20,7 +20,7 @@ use Rattle.ir_draft.specs.declared.stmt.Stmt.{Stmt}
 use Rattle.ir_draft.specs.declared.line.Line.TheVariants as line
 use Rattle.ir_draft.specs.declared.draft.Numbered.{Numbered}
 use Rattle.ir_line.proofs.Bodies as stage
-use Rattle.ir_line.proofs.Bodies.{Stage, stage_behind, begun_behind, IsBodyFrom, IsBody}
+use Rattle.ir_line.proofs.Bodies.{Stage, stage_after_line, begun_after, IsBodyFrom, IsBody}
 use Rattle.ir_types_check.specs.declared.outline.At.{At}
 use Rattle.ir_types_check.specs.declared.locals.Meaning.{Meaning}
 use Rattle.ir_types_check.specs.declared.locals.Meaning.TheVariants.{Value}
@@ -29,12 +29,12 @@ use Rattle.ir_types_check.specs.declared.tops.Top.{Top}
 use Rattle.ir_types_check.specs.declared.tops.Top.TheVariants.{Global}
 use Rattle.ir_types_check.specs.declared.building.Built.{Built}
 use Rattle.ir_types_check.specs.Scope.{Scope, meaning}
-use Rattle.ir_types_check.specs.Outline.{start, opened, behind_inst}
+use Rattle.ir_types_check.specs.Outline.{start, opened, after_inst}
 use Rattle.ir_types_check.specs.Locals.{with_params, locals_of}
 use Rattle.ir_types_check.specs.Blocks.{id_of, closed, open_block, with_last, settled, with_inst, labelled, params_from, param_lines, func_of, built_lines, built_of}
 use Rattle.ir_types_check.specs.Typed.{sources_at, count, sources_of, lines_typed, with_line_edges}
 use Rattle.ir_types_check.proofs.Binding.{bind_ok, nothing}
-use Rattle.ir_types_check.proofs.BodyScope.{stmt_tys, param_tys, IsScope, Grows, params_grow, lines_grow, behind_all}
+use Rattle.ir_types_check.proofs.BodyScope.{stmt_tys, param_tys, IsScope, Grows, params_grow, lines_grow, after_all}
 use Rattle.ir_types_check.proofs.BodyBlocks.{AtStage, begun_all, at_end, is_open, opens, IsWholeBlock, Sim, Ended, IsStep, Stays, goes}
 use Rattle.ir_types_check.proofs.BodyTypes.{map_length}
 use Rattle.ir_types_check.proofs.BodyIds.{flat, all_insts, AreCounted, Counting, counting, in_flat, in_counted, in_params, past_params, ids_from, ids_append, counted_ids, flat_ids, param_ids, length_param_lines}
@@ -95,7 +95,7 @@ module _ (P : ℕ → Inst → Type 0) where
     on_case = λ at S b n value label rest h. record { done = h.done; current = h.current };
     on_end = λ at S b n rest h. record { done = h.done; current = h.current };
     on_stmt = λ at S b n s rest inst step h.
-        with_each n b inst at (behind_inst (opened at) s) S (with_line_edges locals at S (line.Stmt s) rest) (record { line = n; form = line.Stmt s } ∷ rest) rest h (each at b n s rest inst step);
+        with_each n b inst at (after_inst (opened at) s) S (with_line_edges locals at S (line.Stmt s) rest) (record { line = n; form = line.Stmt s } ∷ rest) rest h (each at b n s rest inst step);
   }
 
   pub each_inst : (tops : Scope Top) (locals : Scope Meaning) (ret : Ty) (edges : List (List ℕ)) (base : ℕ) (b after : Built) (body : List Numbered) (u : Unit {0}) →
@@ -108,7 +108,7 @@ module _ (P : ℕ → Inst → Type 0) where
         done = subst (AllFrom 0) (sym none) tt;
         current = subst (λ (c : Option Block). All (P (length b.blocks)) (open_block c).insts) (sym closed') (All-nil (P (length b.blocks)));
       } in
-      let g : Each' (behind_all start body) _ after [] × Ended after (begun_all stage.Between 0 body) =
+      let g : Each' (after_all start body) _ after [] × Ended after (begun_all stage.Between 0 body) =
       goes tops locals ret edges base Each' (each_stays tops locals ret edges base each) stage.Between 0 start [] b after body u sim at is first built typed in
       let z : 0 + j ≡ j = omega arith in
       subst (λ n. All (P n) block.insts) z (from_get 0 after.blocks j block g.0.done e)
@@ -117,7 +117,7 @@ module _ (P : ℕ → Inst → Type 0) where
 
 some_begun : (st : Stage) (n : ℕ) (body : List Numbered) → IsBodyFrom st n body → 0 < begun_all st n body
 some_begun st n [] h = h.1
-some_begun st n (x ∷ xs) h = some_begun (stage_behind st x.form) (begun_behind st n x.form) xs h.1
+some_begun st n (x ∷ xs) h = some_begun (stage_after_line st x.form) (begun_after st n x.form) xs h.1
 
 params_typed : (k : ℕ) (ps : List Param) → All (λ (p : Param). is_value p.ty ≡ true) ps → All (λ (p : Param). is_value p.ty ≡ true) (params_from k ps)
 params_typed k [] h = All-nil (λ (p : Param). is_value p.ty ≡ true)
@@ -151,7 +151,7 @@ module _ (m : Module) (tops : Scope Top) (globals : (name : List ℕ) (g : ℕ) 
   locals_are l e =
       bind_ok (with_params n (record { scope = []; at = start }) head.params) _ l e (λ lp was now.
       let g : Grows (record { scope = []; at = start }) lp (param_tys head.params) × (lp.at.blocks ≡ 0) × (lp.at.is_open ≡ false) = params_grow n (record { scope = []; at = start }) lp head.params was in
-      let h : Grows lp l (stmt_tys body) × (l.at ≡ behind_all lp.at body) = lines_grow lp l stage.Between 0 body is now in
+      let h : Grows lp l (stmt_tys body) × (l.at ≡ after_all lp.at body) = lines_grow lp l stage.Between 0 body is now in
       let many : length (param_tys head.params) ≡ length head.params = map_length (λ (p : Param). p.ty) head.params in
       record {
         values = λ name place ty e. elim (h.0.values name place ty e) [
@@ -188,11 +188,11 @@ module _ (m : Module) (tops : Scope Top) (globals : (name : List ℕ) (g : ℕ) 
   built_is : (l : Locals) (b : Built) (u : Unit {0}) → LocalsAre l → built_lines tops l.scope base begin body ≡ Ok b → lines_typed tops l.scope head.ret (sources_of l body) start body ≡ Ok u → BuiltIs l b
   built_is l b u known built typed =
       let zero_lines : length (param_lines n lines head.params) ≡ length lines + length head.params = length_param_lines n lines head.params in
-      let counted : Counting (base + length head.params) (stmt_tys body) (behind_all start body) _ b [] × Ended b (begun_all stage.Between 0 body) =
+      let counted : Counting (base + length head.params) (stmt_tys body) (after_all start body) _ b [] × Ended b (begun_all stage.Between 0 body) =
       goes tops l.scope head.ret (sources_of l body) base (Counting (base + length head.params) (stmt_tys body)) (counting tops l.scope head.ret (sources_of l body) base (base + length head.params) (stmt_tys body))
       stage.Between 0 start (replicate l.at.blocks []) begin b body u sim_begin at_start is
       (record { tys = []; counted = tt; whole = refl; lines = omega (arith, zero_lines) }) built typed in
-      let edges : Edged l.at.blocks (behind_all start body) (sources_of l body) b [] × Ended b (begun_all stage.Between 0 body) =
+      let edges : Edged l.at.blocks (after_all start body) (sources_of l body) b [] × Ended b (begun_all stage.Between 0 body) =
       goes tops l.scope head.ret (sources_of l body) base (Edged l.at.blocks) (edged tops l.scope head.ret (sources_of l body) base l.at.blocks)
       stage.Between 0 start (replicate l.at.blocks []) begin b body u sim_begin at_start is
       (record { many = length-replicate l.at.blocks []; same = λ c to less. no_sources l.at.blocks c to ∙ sym (no_rows c to) }) built typed in

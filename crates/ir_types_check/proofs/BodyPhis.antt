@@ -14,11 +14,12 @@ use Rattle.ir_types_check.specs.declared.locals.Meaning.{Meaning}
 use Rattle.ir_types_check.specs.declared.tops.Top.{Top}
 use Rattle.ir_types_check.specs.Scope.{Scope, meaning}
 use Rattle.ir_types_check.specs.Links.{opd_of, block_at}
-use Rattle.ir_types_check.specs.Typed.{number_at, count, same_blocks, same_ty, same_lane, same_lanes, same_literal, same_opd, is_brought, with_brought, agree}
+use Rattle.ir_types.specs.Typed.{same_ty}
+use Rattle.ir_types_check.specs.Typed.{number_at, count, same_blocks, same_lane, same_lanes, same_literal, same_opd, is_brought, with_brought, agree}
 use Rattle.ir_types_check.proofs.Binding.{ok, ok_is, some_is, nothing, clash, both}
 use Rattle.ir_types_check.proofs.Counts.{counts_equal}
 use Rattle.ir_types_check.proofs.BodyLinks.{Means, IsOpdOf, number_is}
-use Rattle.ir_types_check.proofs.BodyTypes.{same_is}
+use Rattle.ir_types.proofs.SameTypes.{same_is}
 use Rattle.ir_types_check.proofs.BodyEdges.{hits, count_hits}
 
 -- ---- blocks

@@ -13,13 +13,13 @@ use Rattle.ir_draft.specs.declared.stmt.Stmt.{Stmt}
 use Rattle.ir_draft.specs.declared.line.Line.{Line}
 use Rattle.ir_draft.specs.declared.line.Line.TheVariants as line
 use Rattle.ir_draft.specs.declared.draft.Numbered.{Numbered}
-use Rattle.ir_line.proofs.Bodies.{Stage, Stands, stage_behind, begun_behind, IsBodyFrom}
+use Rattle.ir_line.proofs.Bodies.{Stage, Stands, stage_after_line, begun_after, IsBodyFrom}
 use Rattle.ir_types_check.specs.declared.outline.At.{At}
 use Rattle.ir_types_check.specs.declared.locals.Meaning.{Meaning}
 use Rattle.ir_types_check.specs.declared.locals.Meaning.TheVariants.{Value, Block}
 use Rattle.ir_types_check.specs.declared.locals.Locals.{Locals}
 use Rattle.ir_types_check.specs.Scope.{Scope, meaning, define, of_function}
-use Rattle.ir_types_check.specs.Outline.{opened, behind_param, behind_label, behind_inst, behind, param_name}
+use Rattle.ir_types_check.specs.Outline.{opened, past_param, after_label, after_inst, past, param_name}
 use Rattle.ir_types_check.specs.Locals.{with_name, with_param, with_params, with_label, with_opened, with_result, with_stmt, with_line, with_lines}
 use Rattle.ir_types_check.proofs.Binding.{bind_ok, ok, ok_is, some_is, nothing, cond_not, clash}
 
@@ -184,18 +184,18 @@ with_block l after name at n p b = record {
 
 -- ---- parameters
 
-param_grows : (n : ℕ) (l after : Locals) (p : Param) → with_param n l p ≡ Ok after → Grows l after (p.ty ∷ []) × (after.at ≡ behind_param l.at p)
-unfolding with_param behind_param
+param_grows : (n : ℕ) (l after : Locals) (p : Param) → with_param n l p ≡ Ok after → Grows l after (p.ty ∷ []) × (after.at ≡ past_param l.at p)
+unfolding with_param past_param
 param_grows n l after p e =
-    let h : Named l after (param_name l.at.next p.name) (Value l.at.place p.ty) (behind_param l.at p) = named n l after _ _ _ e in
+    let h : Named l after (param_name l.at.next p.name) (Value l.at.place p.ty) (past_param l.at p) = named n l after _ _ _ e in
     (with_value l after _ p.ty _ h refl refl, h.at)
 
 pub params_grow : (n : ℕ) (l after : Locals) (ps : List Param) → with_params n l ps ≡ Ok after → Grows l after (param_tys ps) × (after.at.blocks ≡ l.at.blocks) × (after.at.is_open ≡ l.at.is_open)
-unfolding behind_param
+unfolding past_param
 params_grow n l after [] e = subst (λ x. Grows l x [] × (x.at.blocks ≡ l.at.blocks) × (x.at.is_open ≡ l.at.is_open)) (ok_is e) (unchanged l, refl, refl)
 params_grow n l after (p ∷ ps) e =
     bind_ok (with_param n l p) _ after e (λ m was now.
-    let g : Grows l m (p.ty ∷ []) × (m.at ≡ behind_param l.at p) = param_grows n l m p was in
+    let g : Grows l m (p.ty ∷ []) × (m.at ≡ past_param l.at p) = param_grows n l m p was in
     let h : Grows m after (param_tys ps) × (after.at.blocks ≡ m.at.blocks) × (after.at.is_open ≡ m.at.is_open) = params_grow n m after ps now in
     (further l m after (p.ty ∷ []) (param_tys ps) g.0 h.0, h.1 ∙ ap (λ (x : At). x.blocks) g.1, h.2 ∙ ap (λ (x : At). x.is_open) g.1))
 
@@ -222,9 +222,9 @@ no_store true name r e f = nothing (sym (f refl) ∙ e)
 no_store false name r e f = refl
 
 result_grows : (n : ℕ) (l after : Locals) (s : Stmt) (r : Option (List ℕ)) → s.result ≡ r → (is_store s.op ≡ true → s.result ≡ None) → with_result n l s r ≡ Ok after →
-    Grows l after (given_ty s.op s.ty ∷ []) × (after.at ≡ behind_inst l.at s)
-unfolding behind_inst
-result_grows n l after s None is silent e = subst (λ x. Grows l x (given_ty s.op s.ty ∷ []) × (x.at ≡ behind_inst l.at s)) (ok_is e) (
+    Grows l after (given_ty s.op s.ty ∷ []) × (after.at ≡ after_inst l.at s)
+unfolding after_inst
+result_grows n l after s None is silent e = subst (λ x. Grows l x (given_ty s.op s.ty ∷ []) × (x.at ≡ after_inst l.at s)) (ok_is e) (
   record {
     values = λ name place ty e. inl e;
     place = omega arith;
@@ -233,35 +233,35 @@ result_grows n l after s None is silent e = subst (λ x. Grows l x (given_ty s.o
   refl,
 )
 result_grows n l after s (Some name) is silent e =
-    let h : Named l after name (Value l.at.place s.ty) (behind_inst l.at s) = named n l after _ _ _ e in
+    let h : Named l after name (Value l.at.place s.ty) (after_inst l.at s) = named n l after _ _ _ e in
     let t : given_ty s.op s.ty ≡ s.ty = given s.op s.ty (no_store (is_store s.op) name s.result is silent) in
-    (subst (λ x. Grows l after (x ∷ [])) (sym t) (with_value l after name s.ty (behind_inst l.at s) h refl refl), h.at)
+    (subst (λ x. Grows l after (x ∷ [])) (sym t) (with_value l after name s.ty (after_inst l.at s) h refl refl), h.at)
 
-line_grows : (n : ℕ) (l after : Locals) (st : Stage) (k : ℕ) (form : Line) → Stands st k form → with_line n l form ≡ Ok after → Grows l after (tys_before form []) × (after.at ≡ behind l.at form)
-unfolding with_label with_stmt behind_label
+line_grows : (n : ℕ) (l after : Locals) (st : Stage) (k : ℕ) (form : Line) → Stands st k form → with_line n l form ≡ Ok after → Grows l after (tys_before form []) × (after.at ≡ past l.at form)
+unfolding with_label with_stmt after_label
 line_grows n l after st k line.Empty h e = absurd h
 line_grows n l after st k (line.Kept kept) h e = absurd h
 line_grows n l after st k (line.Define name head) h e = absurd h
 line_grows n l after st k line.Close h e = absurd h
 line_grows n l after st k (line.Label name) h e =
-    let g : Named l after name (Block l.at.blocks) (behind_label l.at name) = named n l after _ _ _ e in
-    (with_block l after name (behind_label l.at name) g refl refl, g.at)
+    let g : Named l after name (Block l.at.blocks) (after_label l.at name) = named n l after _ _ _ e in
+    (with_block l after name (after_label l.at name) g refl refl, g.at)
 line_grows n l after st k (line.Stmt s) h e =
     bind_ok (with_opened n l) _ after e (λ o was now.
     let g : Grows l o [] × (o.at ≡ opened l.at) = opened_grows n l o was in
-    let r : Grows o after (given_ty s.op s.ty ∷ []) × (after.at ≡ behind_inst o.at s) = result_grows n o after s s.result refl h.whole.silent now in
-    (further l o after [] (given_ty s.op s.ty ∷ []) g.0 r.0, r.1 ∙ ap (λ (x : At). behind_inst x s) g.1))
+    let r : Grows o after (given_ty s.op s.ty ∷ []) × (after.at ≡ after_inst o.at s) = result_grows n o after s s.result refl h.whole.silent now in
+    (further l o after [] (given_ty s.op s.ty ∷ []) g.0 r.0, r.1 ∙ ap (λ (x : At). after_inst x s) g.1))
 line_grows n l after st k (line.Case value label) h e = subst (λ x. Grows l x [] × (x.at ≡ l.at)) (ok_is e) (unchanged l, refl)
 line_grows n l after st k line.CasesEnd h e = subst (λ x. Grows l x [] × (x.at ≡ l.at)) (ok_is e) (unchanged l, refl)
 
-abbrev pub behind_all : At → List Numbered → At
-behind_all at [] = at
-behind_all at (x ∷ xs) = behind_all (behind at x.form) xs
+abbrev pub after_all : At → List Numbered → At
+after_all at [] = at
+after_all at (x ∷ xs) = after_all (past at x.form) xs
 
-pub lines_grow : (l after : Locals) (st : Stage) (k : ℕ) (body : List Numbered) → IsBodyFrom st k body → with_lines l body ≡ Ok after → Grows l after (stmt_tys body) × (after.at ≡ behind_all l.at body)
+pub lines_grow : (l after : Locals) (st : Stage) (k : ℕ) (body : List Numbered) → IsBodyFrom st k body → with_lines l body ≡ Ok after → Grows l after (stmt_tys body) × (after.at ≡ after_all l.at body)
 lines_grow l after st k [] h e = subst (λ x. Grows l x [] × (x.at ≡ l.at)) (ok_is e) (unchanged l, refl)
 lines_grow l after st k (x ∷ xs) h e =
     bind_ok (with_line x.line l x.form) _ after e (λ m was now.
-    let g : Grows l m (tys_before x.form []) × (m.at ≡ behind l.at x.form) = line_grows x.line l m st k x.form h.0 was in
-    let r : Grows m after (stmt_tys xs) × (after.at ≡ behind_all m.at xs) = lines_grow m after (stage_behind st x.form) (begun_behind st k x.form) xs h.1 now in
-    (subst (λ ts. Grows l after ts) (before_append x.form (stmt_tys xs)) (further l m after (tys_before x.form []) (stmt_tys xs) g.0 r.0), r.1 ∙ ap (λ (a : At). behind_all a xs) g.1))
+    let g : Grows l m (tys_before x.form []) × (m.at ≡ past l.at x.form) = line_grows x.line l m st k x.form h.0 was in
+    let r : Grows m after (stmt_tys xs) × (after.at ≡ after_all m.at xs) = lines_grow m after (stage_after_line st x.form) (begun_after st k x.form) xs h.1 now in
+    (subst (λ ts. Grows l after ts) (before_append x.form (stmt_tys xs)) (further l m after (tys_before x.form []) (stmt_tys xs) g.0 r.0), r.1 ∙ ap (λ (a : At). after_all a xs) g.1))

@@ -10,7 +10,7 @@ use Rattle.ir_types.specs.declared.op.Op.{Op}
 use Rattle.ir_types.specs.declared.op.Op.TheVariants as ops
 use Rattle.ir_types.specs.declared.func.Func.{Func}
 use Rattle.ir_types.specs.declared.module.Module.{Module}
-use Rattle.ir_types.specs.Typed.{is_value, IsCase, IsTyped}
+use Rattle.ir_types.specs.Typed.{is_value, IsCase, IsTyped, same_ty}
 use Rattle.ir_types.specs.Formed.{value_ty, opd_ty, IsOpd}
 use Rattle.ir_draft.specs.declared.written.Written.{Written}
 use Rattle.ir_draft.specs.declared.written.Written.TheVariants as written
@@ -25,18 +25,10 @@ use Rattle.ir_types_check.specs.declared.tops.Top.TheVariants.{Global, Function,
 use Rattle.ir_types_check.specs.declared.links.Cases.{Cases}
 use Rattle.ir_types_check.specs.Scope.{Scope, meaning}
 use Rattle.ir_types_check.specs.Links.{value_of, global_of, opd_of, block_at, op_of}
-use Rattle.ir_types_check.specs.Typed.{same_ty, is_value_of, fits_type, arg_fits, first_ty, op_fits}
+use Rattle.ir_types_check.specs.Typed.{is_value_of, fits_type, arg_fits, first_ty, op_fits}
+use Rattle.ir_types.proofs.SameTypes.{same_is}
 use Rattle.ir_types_check.proofs.Binding.{ok_is, refused, clash, both}
 use Rattle.ir_types_check.proofs.BodyLinks.{IsOpdOf}
-
-pub same_is : (t u : Ty) → same_ty t u ≡ true → t ≡ u
-same_is Void Void e = refl
-same_is (Int w) (Int v) e = ap Int (eqb-true w v e)
-same_is Ptr Ptr e = refl
-same_is (Row n w) (Row m v) e =
-    let p : (nat_eq n m ≡ true) × (nat_eq w v ≡ true) = both (nat_eq n m) (nat_eq w v) e in
-    ap (λ k. Row k w) (eqb-true n m p.0) ∙ ap (Row m) (eqb-true w v p.1)
-same_is _ _ e = clash (sym e)
 
 -- what the names of values and globals mean is there
 pub record IsThere (m : Module) (func : Func) (tops : Scope Top) (locals : Scope Meaning) (base : ℕ) : Type 0 where

@@ -25,7 +25,7 @@ use Rattle.ir_types_check.specs.declared.locals.Locals.{Locals}
 use Rattle.ir_types_check.specs.declared.tops.Top.{Top}
 use Rattle.ir_types_check.specs.declared.building.Built.{Built}
 use Rattle.ir_types_check.specs.Scope.{Scope, meaning, define, of_function}
-use Rattle.ir_types_check.specs.Outline.{is_number, written_name, written, param_name, opened, behind_param, behind_label, behind_inst, start}
+use Rattle.ir_types_check.specs.Outline.{is_number, written_name, written, param_name, opened, past_param, after_label, after_inst, start}
 use Rattle.ir_types_check.specs.Locals.{with_name, with_param, with_params, with_label, with_opened, with_result, with_stmt, with_line, with_lines, locals_of}
 use Rattle.ir_types_check.specs.Links.{linked, cases_of}
 use Rattle.ir_types_check.specs.Blocks.{inst_of, closed, with_statement, built_line, built_lines, params_from}
@@ -122,7 +122,7 @@ module _ {M : Type 0} where
 
 -- ---- the names of a function
 
--- with these written names behind
+-- with these written names after
 record Grown (l after : Locals) (new : List (List ℕ)) : Type 0 where
   apart : Apart (keys l.scope) → Apart (keys after.scope)
   names : plain (keys after.scope) ≡ plain (keys l.scope) ++ new
@@ -189,7 +189,7 @@ unfolding with_param
 params_grown n l after [] e = same l after (ap (λ (x : Locals). keys x.scope) (sym (ok_is e)))
 params_grown n l after (p ∷ ps) e =
     bind_ok (with_param n l p) _ after e (λ m was now.
-    let g : Grown l m (onto (written_name (param_name l.at.next p.name)) []) = named n l m (param_name l.at.next p.name) (Value l.at.place p.ty) (behind_param l.at p) was in
+    let g : Grown l m (onto (written_name (param_name l.at.next p.name)) []) = named n l m (param_name l.at.next p.name) (Value l.at.place p.ty) (past_param l.at p) was in
     let h : Grown m after (param_names ps) = params_grown n m after ps now in
     subst (Grown l after) (sym (onto_append (written p.name) [] (param_names ps)))
     (further l m after (onto (written p.name) []) (param_names ps) (subst (λ o. Grown l m (onto o [])) (param_written l.at.next p.name) g) h))
@@ -213,11 +213,11 @@ opened_grown n l after e = here l.at.is_open e where
 
 result_grown : (n : ℕ) (l after : Locals) (s : Stmt) (r : Option (List ℕ)) → with_result n l s r ≡ Ok after → Grown l after (onto (written r) [])
 result_grown n l after s None e = same l after (ap (λ (x : Locals). keys x.scope) (sym (ok_is e)))
-result_grown n l after s (Some name) e = named n l after name (Value l.at.place s.ty) (behind_inst l.at s) e
+result_grown n l after s (Some name) e = named n l after name (Value l.at.place s.ty) (after_inst l.at s) e
 
 line_grown : (n : ℕ) (l after : Locals) (form : Line) → with_line n l form ≡ Ok after → Grown l after (line_names form)
 unfolding with_label with_stmt
-line_grown n l after (line.Label name) e = named n l after name (BlockMeaning l.at.blocks) (behind_label l.at name) e
+line_grown n l after (line.Label name) e = named n l after name (BlockMeaning l.at.blocks) (after_label l.at name) e
 line_grown n l after (line.Stmt s) e =
     bind_ok (with_opened n l) _ after e (λ o was now. further l o after [] (onto (written s.result) []) (opened_grown n l o was) (result_grown n o after s s.result now))
 line_grown n l after line.Empty e = same l after (ap (λ (x : Locals). keys x.scope) (sym (ok_is e)))

@@ -40,7 +40,7 @@ draft_tops (x ∷ xs) = item_tops x ++ draft_tops xs
 
 -- ---- names
 
--- with these names behind, of which these are globals
+-- with these names after, of which these are globals
 record Grown (t after : Tops) (names globals : List (List ℕ)) : Type 0 where
   keys_are : keys after.scope ≡ keys t.scope ++ names
   apart : Apart (keys t.scope) → Apart (keys after.scope)

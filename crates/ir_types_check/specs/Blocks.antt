@@ -45,7 +45,7 @@ open_block (Some block) = block
 abbrev pub with_last : Block → Inst → Block
 with_last block inst = record { name = block.name; insts = block.insts ++ inst ∷ [] }
 
--- behind an instruction, which closes its block or leaves it open
+-- after an instruction, which closes its block or leaves it open
 abbrev pub settled : Bool → List Block → Block → List ℕ → Built
 settled true blocks block lines = record { blocks = blocks ++ block ∷ []; current = None; lines = lines }
 settled false blocks block lines = record { blocks = blocks; current = Some block; lines = lines }
@@ -62,7 +62,7 @@ labelled b name = record { blocks = closed b.blocks b.current; current = Some (r
 unfoldable pub with_statement : Scope Top → Scope Meaning → ℕ → ℕ → Built → Stmt → List Numbered → Result Built ResolveRefusal
 with_statement tops locals base n b s rest = inst_of tops locals base (length b.lines) n s rest >>= λ inst. Ok (with_inst n b inst)
 
--- with a line of the body, behind which these follow
+-- with a line of the body, after which these follow
 abbrev pub built_line : Scope Top → Scope Meaning → ℕ → ℕ → Built → Line → List Numbered → Result Built ResolveRefusal
 built_line tops locals base n b (line.Label name) rest = Ok (labelled b name)
 built_line tops locals base n b (line.Stmt s) rest = with_statement tops locals base n b s rest
@@ -98,7 +98,7 @@ func_of base head blocks = record {
   blocks = blocks;
 }
 
--- the blocks of a function whose header's line is n, behind these lines of the module's ids
+-- the blocks of a function whose header's line is n, after these lines of the module's ids
 unfoldable pub built_of : Scope Top → Scope Meaning → ℕ → List ℕ → Head → List Numbered → Result Built ResolveRefusal
 built_of tops locals n lines head body =
     built_lines tops locals (length lines) (record { blocks = []; current = None; lines = param_lines n lines head.params }) body

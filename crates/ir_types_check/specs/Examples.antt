@@ -19,7 +19,7 @@ use Rattle.ir_draft.specs.declared.draft.DraftItem.{DraftItem}
 use Rattle.ir_draft.specs.declared.draft.DraftItem.TheVariants.{Func}
 use Rattle.ir_types_check.specs.declared.refusal.ResolveRefusal.TheVariants.{TwiceDefined, Unknown, IllTyped}
 use Rattle.ir_types_check.specs.Scope.{define}
-use Rattle.ir_types_check.specs.Outline.{opened, behind_param, behind_label, behind_inst}
+use Rattle.ir_types_check.specs.Outline.{opened, past_param, after_label, after_inst}
 use Rattle.ir_types_check.specs.Locals.{with_name, with_param, with_label, with_opened, with_stmt, locals_of}
 use Rattle.ir_types_check.specs.Tops.{with_top, with_function}
 use Rattle.ir_types_check.specs.Links.{in_order, with_pair}
@@ -63,22 +63,22 @@ nothing = refl
 
 -- two functions of one name
 same_name : resolved_of (record { items = func 1 (codes "f") [] (ret 2 ∷ []) ∷ func 4 (codes "f") [] (ret 5 ∷ []) ∷ [] }) ≡ Err (TwiceDefined 4 (codes "@f"))
-unfolding digits resolved_of define with_name with_opened with_stmt locals_of with_top with_function opened behind_inst
+unfolding digits resolved_of define with_name with_opened with_stmt locals_of with_top with_function opened after_inst
 same_name = refl
 
 -- a label of a parameter's name, in front of an unknown one
 label_twice : resolved_of (one_func (at 2 (stmt None Void (Br 0) [] (codes "x" ∷ [])) ∷ at 3 (Label (codes "c")) ∷ ret 4 ∷ [])) ≡ Err (TwiceDefined 3 (codes "%c"))
-unfolding digits resolved_of define with_name with_param with_label with_opened with_stmt locals_of with_top with_function opened behind_param behind_label behind_inst
+unfolding digits resolved_of define with_name with_param with_label with_opened with_stmt locals_of with_top with_function opened past_param after_label after_inst
 label_twice = refl
 
 -- a value used as a label is unknown
 value_as_label : resolved_of (one_func (at 2 (stmt None Void (Br 0) [] (codes "c" ∷ [])) ∷ [])) ≡ Err (Unknown 2 (codes "%c"))
-unfolding digits resolved_of resolved_with resolved_function define with_name with_param with_opened with_stmt locals_of with_top with_function opened behind_param behind_inst built_of with_statement inst_of in_order
+unfolding digits resolved_of resolved_with resolved_function define with_name with_param with_opened with_stmt locals_of with_top with_function opened past_param after_inst built_of with_statement inst_of in_order
 value_as_label = refl
 
 -- a branch to the first block, which is known by its number
 to_the_first : resolved_of (one_func (at 2 (stmt None Void (Br 0) [] (codes "0" ∷ [])) ∷ [])) ≡ Err (IllTyped 2)
-unfolding digits resolved_of resolved_with resolved_function define with_name with_param with_opened with_stmt locals_of with_top with_function opened behind_param behind_inst built_of with_statement inst_of in_order with_inst with_built function_typed
+unfolding digits resolved_of resolved_with resolved_function define with_name with_param with_opened with_stmt locals_of with_top with_function opened past_param after_inst built_of with_statement inst_of in_order with_inst with_built function_typed
 to_the_first = refl
 
 -- two edges to one block, and a phi with these pairs of 1 and the first block
@@ -93,7 +93,7 @@ joined args labels places =
 
 -- one pair for two edges
 a_pair_missing : resolved_of (joined (one ∷ []) (codes "0" ∷ []) (0 ∷ [])) ≡ Err (IllTyped 4)
-unfolding digits resolved_of resolved_with resolved_function define with_name with_param with_label with_opened with_stmt locals_of with_top with_function opened behind_param behind_label behind_inst built_of with_statement inst_of in_order with_pair with_inst labelled with_built function_typed
+unfolding digits resolved_of resolved_with resolved_function define with_name with_param with_label with_opened with_stmt locals_of with_top with_function opened past_param after_label after_inst built_of with_statement inst_of in_order with_pair with_inst labelled with_built function_typed
 a_pair_missing = refl
 
 -- two
@@ -126,5 +126,5 @@ two_pairs : resolved_of (joined (one ∷ one ∷ []) (codes "0" ∷ codes "0" �
   };
   lines = 1 ∷ 2 ∷ 4 ∷ 5 ∷ [];
 })
-unfolding digits resolved_of resolved_with resolved_function define with_name with_param with_label with_opened with_stmt locals_of with_top with_function opened behind_param behind_label behind_inst built_of with_statement inst_of in_order with_pair with_inst labelled with_built module_of function_typed
+unfolding digits resolved_of resolved_with resolved_function define with_name with_param with_label with_opened with_stmt locals_of with_top with_function opened past_param after_label after_inst built_of with_statement inst_of in_order with_pair with_inst labelled with_built module_of function_typed
 two_pairs = refl

@@ -53,12 +53,12 @@ opd_of tops locals base n (written.Local name) = value_of base n name (meaning n
 opd_of tops locals base n (written.Symbol name) = global_of n name (meaning name tops)
 opd_of tops locals base n (written.Lit literal) = Ok (Lit literal)
 
--- these operands, and behind them those that are written
+-- these operands, and after them those that are written
 abbrev pub opds_onto : Scope Top → Scope Meaning → ℕ → ℕ → List Opd → List Arg → Result (List Opd) ResolveRefusal
 opds_onto tops locals base n done [] = Ok done
 opds_onto tops locals base n done (a ∷ args) = opd_of tops locals base n a.opd >>= λ o. opds_onto tops locals base n (done ++ o ∷ []) args
 
--- these blocks, and behind them those of some labels
+-- these blocks, and after them those of some labels
 abbrev pub blocks_onto : Scope Meaning → ℕ → List ℕ → List (List ℕ) → Result (List ℕ) ResolveRefusal
 blocks_onto locals n done [] = Ok done
 blocks_onto locals n done (l ∷ labels) = block_of n l (meaning l locals) >>= λ b. blocks_onto locals n (done ++ b ∷ []) labels
@@ -77,7 +77,7 @@ abbrev pub pairs_onto : Scope Top → Scope Meaning → ℕ → ℕ → Linked �
 pairs_onto tops locals base n done (a ∷ args) (l ∷ labels) = with_pair tops locals base n done a.opd l >>= λ after. pairs_onto tops locals base n after args labels
 pairs_onto tops locals base n done _ _ = Ok done
 
--- what the names of a statement stand for: of a `phi` by turns, of a call behind its callee
+-- what the names of a statement stand for: of a `phi` by turns, of a call after its callee
 abbrev pub linked_by : Scope Top → Scope Meaning → ℕ → ℕ → Stmt → Op → Result Linked ResolveRefusal
 linked_by tops locals base n s (Phi blocks) = pairs_onto tops locals base n (record { opds = []; blocks = [] }) s.args s.labels
 linked_by tops locals base n s (Call site) = callee_of n site.callee (meaning site.callee tops) >>= λ _. in_order tops locals base n s
@@ -86,7 +86,7 @@ linked_by tops locals base n s _ = in_order tops locals base n s
 abbrev pub linked : Scope Top → Scope Meaning → ℕ → ℕ → Stmt → Result Linked ResolveRefusal
 linked tops locals base n s = linked_by tops locals base n s s.op
 
--- ---- the cases of a `switch`, which are the lines behind it up to the first that is no case
+-- ---- the cases of a `switch`, which are the lines after it up to the first that is no case
 
 -- the lane of a case's literal
 abbrev pub lane_of : Literal → Option ℕ

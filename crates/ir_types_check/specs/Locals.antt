@@ -14,7 +14,7 @@ use Rattle.ir_types_check.specs.declared.outline.At.{At}
 use Rattle.ir_types_check.specs.declared.refusal.ResolveRefusal.{ResolveRefusal}
 use Rattle.ir_types_check.specs.Answers.{◌>>=◌}
 use Rattle.ir_types_check.specs.Scope.{define, of_function}
-use Rattle.ir_types_check.specs.Outline.{start, opened, behind_param, behind_label, behind_inst, param_name}
+use Rattle.ir_types_check.specs.Outline.{start, opened, past_param, after_label, after_inst, param_name}
 
 -- the locals with a name that the line n defines, where the next line then stands there
 unfoldable pub with_name : ℕ → Locals → List ℕ → Meaning → At → Result Locals ResolveRefusal
@@ -22,7 +22,7 @@ with_name n l name m at = define n of_function name m l.scope >>= λ scope. Ok (
 
 -- with a parameter; the header's line is n
 unfoldable pub with_param : ℕ → Locals → Param → Result Locals ResolveRefusal
-with_param n l p = with_name n l (param_name l.at.next p.name) (Value l.at.place p.ty) (behind_param l.at p)
+with_param n l p = with_name n l (param_name l.at.next p.name) (Value l.at.place p.ty) (past_param l.at p)
 
 abbrev pub with_params : ℕ → Locals → List Param → Result Locals ResolveRefusal
 with_params n l [] = Ok l
@@ -30,7 +30,7 @@ with_params n l (p ∷ ps) = with_param n l p >>= λ after. with_params n after 
 
 -- with a label
 unfoldable pub with_label : ℕ → Locals → List ℕ → Result Locals ResolveRefusal
-with_label n l name = with_name n l name (Block l.at.blocks) (behind_label l.at name)
+with_label n l name = with_name n l name (Block l.at.blocks) (after_label l.at name)
 
 -- with a block open: an unnamed one is known by its number
 unfoldable pub with_opened : ℕ → Locals → Result Locals ResolveRefusal
@@ -38,8 +38,8 @@ with_opened n l = cond l.at.is_open (Ok l) (with_name n l (decimal l.at.next) (B
 
 -- with the result of an instruction, if it has one
 abbrev pub with_result : ℕ → Locals → Stmt → Option (List ℕ) → Result Locals ResolveRefusal
-with_result n l s None = Ok (record { scope = l.scope; at = behind_inst l.at s })
-with_result n l s (Some name) = with_name n l name (Value l.at.place s.ty) (behind_inst l.at s)
+with_result n l s None = Ok (record { scope = l.scope; at = after_inst l.at s })
+with_result n l s (Some name) = with_name n l name (Value l.at.place s.ty) (after_inst l.at s)
 
 -- with an instruction; the block that it begins comes before its result
 unfoldable pub with_stmt : ℕ → Locals → Stmt → Result Locals ResolveRefusal

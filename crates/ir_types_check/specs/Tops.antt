@@ -37,7 +37,7 @@ with_opaque n t (Some name) = with_top n t name Other
 abbrev pub signature_of : Head → Signature
 signature_of head = record { ret = head.ret; params = map (λ (p : Param). p.ty) head.params }
 
--- with a function; its own names come behind its name
+-- with a function; its own names come after its name
 unfoldable pub with_function : ℕ → Tops → Head → List Numbered → Result Tops ResolveRefusal
 with_function n t head body = with_top n t head.name (Function (signature_of head)) >>= λ after. locals_of n head body >>= λ _. Ok after
 

@@ -15,6 +15,7 @@ use Rattle.ir_types.specs.declared.ty.Ty.TheVariants.{Void, Int, Ptr, Row}
 use Rattle.ir_types.specs.declared.literal.Literal.{Literal}
 use Rattle.ir_types.specs.declared.op.Op.{Op}
 use Rattle.ir_types.specs.declared.op.Op.TheVariants.{Phi, Ret, Br, CondBr, Switch, Call}
+use Rattle.ir_types.specs.Typed.{same_ty}
 use Rattle.ir_draft.specs.declared.head.Head.{Head}
 use Rattle.ir_draft.specs.declared.written.Written.{Written}
 use Rattle.ir_draft.specs.declared.written.Written.TheVariants as written
@@ -34,18 +35,11 @@ use Rattle.ir_types_check.specs.declared.tops.Top.TheVariants.{Function}
 use Rattle.ir_types_check.specs.declared.refusal.ResolveRefusal.{ResolveRefusal}
 use Rattle.ir_types_check.specs.Answers.{◌>>=◌, well_typed}
 use Rattle.ir_types_check.specs.Scope.{Scope, meaning}
-use Rattle.ir_types_check.specs.Outline.{start, behind, block_here}
+use Rattle.ir_types_check.specs.Outline.{start, past, block_here}
 use Rattle.ir_types_check.specs.Locals.{locals_of}
 use Rattle.ir_types_check.specs.Links.{Choice, choices, lane_of}
 
 -- ---- types
-
-abbrev pub same_ty : Ty → Ty → Bool
-same_ty Void Void = true
-same_ty (Int w) (Int v) = nat_eq w v
-same_ty Ptr Ptr = true
-same_ty (Row n w) (Row m v) = nat_eq n m && nat_eq w v
-same_ty _ _ = false
 
 -- whether what a name means is a value of the type
 abbrev pub is_value_of : Ty → Option Meaning → Bool
@@ -104,7 +98,7 @@ is_target number = not (nat_eq number 0)
 abbrev pub choice_targets : Scope Meaning → List Choice → List ℕ
 choice_targets locals cs = map (λ (c : Choice). number_of locals c.label) cs
 
--- the targets that a `switch` names in the lines behind it
+-- the targets that a `switch` names in the lines after it
 abbrev pub case_targets : Scope Meaning → Op → List Numbered → List ℕ
 case_targets locals (Switch other cases to) rest = choice_targets locals (choices rest)
 case_targets locals _ rest = []
@@ -121,7 +115,7 @@ abbrev pub with_edges : ℕ → List (List ℕ) → List ℕ → List (List ℕ)
 with_edges from sources [] = sources
 with_edges from sources (to ∷ rest) = with_edges from (with_edge from sources to) rest
 
--- with the edges of a line, behind which these follow
+-- with the edges of a line, after which these follow
 abbrev pub with_line_edges : Scope Meaning → At → List (List ℕ) → Line → List Numbered → List (List ℕ)
 with_line_edges locals at sources (line.Stmt s) rest =
     with_edges (block_here at) (with_edges (block_here at) sources (targets locals s.labels s.op)) (case_targets locals s.op rest)
@@ -129,7 +123,7 @@ with_line_edges locals at sources _ rest = sources
 
 abbrev pub sources_from : Scope Meaning → At → List (List ℕ) → List Numbered → List (List ℕ)
 sources_from locals at sources [] = sources
-sources_from locals at sources (x ∷ xs) = sources_from locals (behind at x.form) (with_line_edges locals at sources x.form xs) xs
+sources_from locals at sources (x ∷ xs) = sources_from locals (past at x.form) (with_line_edges locals at sources x.form xs) xs
 
 abbrev pub sources_of : Locals → List Numbered → List (List ℕ)
 sources_of l body = sources_from l.scope start (replicate l.at.blocks []) body
@@ -224,7 +218,7 @@ abbrev pub cases_typed : Scope Meaning → Stmt → Op → List Numbered → Res
 cases_typed locals s (Switch other cases to) rest = choices_typed locals (first_ty s.args) [] (choices rest)
 cases_typed locals s _ rest = Ok tt
 
--- the line n, behind which these follow
+-- the line n, after which these follow
 abbrev pub line_typed : Scope Top → Scope Meaning → Ty → List (List ℕ) → At → ℕ → Line → List Numbered → Result (Unit {0}) ResolveRefusal
 line_typed tops locals ret sources at n (line.Stmt s) rest =
     well_typed n (stmt_fits tops locals ret sources (block_here at) s) >>= λ _. cases_typed locals s s.op rest
@@ -233,7 +227,7 @@ line_typed tops locals ret sources at n _ rest = Ok tt
 abbrev pub lines_typed : Scope Top → Scope Meaning → Ty → List (List ℕ) → At → List Numbered → Result (Unit {0}) ResolveRefusal
 lines_typed tops locals ret sources at [] = Ok tt
 lines_typed tops locals ret sources at (x ∷ xs) =
-    line_typed tops locals ret sources at x.line x.form xs >>= λ _. lines_typed tops locals ret sources (behind at x.form) xs
+    line_typed tops locals ret sources at x.line x.form xs >>= λ _. lines_typed tops locals ret sources (past at x.form) xs
 
 -- ---- functions and items
 

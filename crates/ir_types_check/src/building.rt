@@ -233,7 +233,7 @@ impl Built {
                 rest: after,
             };
             self.add_line(alloc, known, &spot, &first.form, ill)?;
-            at = at.behind(&first.form)?;
+            at = at.past(&first.form)?;
             rest = after;
         }
         Ok(())
@@ -299,29 +299,38 @@ fn func_of(alloc: Global, base: u32, head: &Head, blocks: Blocks) -> Result<Func
     })
 }
 
+/// A function of a draft.
+#[derive(Clone, Copy)]
+pub(crate) struct Function<'a> {
+    /// The number of the line of its header.
+    pub(crate) line: u32,
+    /// Its header.
+    pub(crate) head: &'a Head,
+    /// The lines after its header.
+    pub(crate) body: &'a [Numbered],
+}
+
 /// The blocks of a function, after these lines of the module's ids.
 #[tactic(auto, unfolding(crate::specs::Blocks::built_of))]
 fn built_of(
     alloc: Global,
     known: &Context,
-    line: u32,
     lines: Numbers,
-    head: &Head,
-    body: &[Numbered],
+    func: Function,
     ill: &mut Option<u32>,
 ) -> Result<Built, ResolveRefusal>
     requires { known.now.base ≡ length lines }
-    ensures built { Gives (λ after. after) result (build.built_of known.now.tops.now known.now.locals.now line lines head.now body.now) }
-    ensures typed { OnOk result (told ill.new ≡ first_told ill.old (typed.lines_typed known.now.tops.now known.now.locals.now known.now.ret known.now.sources.now start body.now)) }
+    ensures built { Gives (λ after. after) result (build.built_of known.now.tops.now known.now.locals.now func.entry.line lines func.entry.head.now func.entry.body.now) }
+    ensures typed { OnOk result (told ill.new ≡ first_told ill.old (typed.lines_typed known.now.tops.now known.now.locals.now known.now.ret known.now.sources.now start func.entry.body.now)) }
 {
     let mut lines = lines;
-    add_param_lines(&mut lines, line, head.params.as_slice())?;
+    add_param_lines(&mut lines, func.line, func.head.params.as_slice())?;
     let mut built = Built {
         blocks: Blocks::with_capacity(alloc, known.sources.len())?,
         current: None,
         lines,
     };
-    built.add_lines(alloc, known, body, ill)?;
+    built.add_lines(alloc, known, func.body, ill)?;
     Ok(built)
 }
 
@@ -341,28 +350,26 @@ impl Done {
         alloc: Global,
         tops: &Scope<'static, Top>,
         own: &Locals,
-        line: u32,
-        head: &Head,
-        body: &[Numbered],
+        func: Function,
         ill: &mut Option<u32>,
     ) -> Result<(), ResolveRefusal>
-        requires { locals_of line head.now body.now ≡ Ok own.now }
-        ensures built { Gives (λ _. self.new) result (resolved.resolved_function tops.now line self.old head.now body.now) }
-        ensures typed { OnOk result (told ill.new ≡ first_told ill.old (typed.function_typed tops.now line head.now body.now)) }
+        requires { locals_of func.line func.head.now func.body.now ≡ Ok own.now }
+        ensures built { Gives (λ _. self.new) result (resolved.resolved_function tops.now func.entry.line self.old func.entry.head.now func.entry.body.now) }
+        ensures typed { OnOk result (told ill.new ≡ first_told ill.old (typed.function_typed tops.now func.entry.line func.entry.head.now func.entry.body.now)) }
     {
-        let sources = sources_of(alloc, own, body)?;
+        let sources = sources_of(alloc, own, func.body)?;
         let lines = mem::replace(&mut self.lines, Numbers::new(alloc));
         let known = Context {
             tops,
             locals: &own.scope,
             sources: &sources,
-            ret: head.ret,
+            ret: func.head.ret,
             base: count_of(lines.len())?,
         };
-        let mut built = built_of(alloc, &known, line, lines, head, body, ill)?;
+        let mut built = built_of(alloc, &known, lines, func, ill)?;
         built.close()?;
-        let func = func_of(alloc, known.base, head, built.blocks)?;
-        self.items.push(Item::Func(func))?;
+        let made = func_of(alloc, known.base, func.head, built.blocks)?;
+        self.items.push(Item::Func(made))?;
         self.lines = built.lines;
         Ok(())
     }

@@ -141,7 +141,7 @@ fn add_cases(
     }
 }
 
-/// With the edges of a line, behind which these follow.
+/// With the edges of a line, after which these follow.
 fn add_line(
     sources: &mut Sources,
     alloc: Global,
@@ -187,7 +187,7 @@ pub(crate) fn sources_of(
     let mut rest = body;
     'each: while let [first, after @ ..] = rest {
         add_line(&mut sources, alloc, &locals.scope, at, &first.form, after)?;
-        at = at.behind(&first.form)?;
+        at = at.past(&first.form)?;
         rest = after;
     }
     Ok(sources)

@@ -18,7 +18,7 @@ use crate::edges::Ends;
 use crate::locals::Meaning;
 use crate::scope::{Scope, with_sigil};
 use crate::tops::Top;
-use crate::types::{args_fit, same_ty};
+use crate::types::args_fit;
 use ir_line::{Arg, Line, Numbered, Stmt, Written};
 use ir_types::{Bytes, Id, Literal, Lits, Numbers, Op, Opd, Opds, Ty};
 use std::alloc::{AllocError, Global};
@@ -61,7 +61,7 @@ fn value_of(
     match known.locals.get(name) {
         Some(Meaning::Value { place, ty: found }) => {
             let k = in_module(known.base, *place)?;
-            *fits = *fits && same_ty(*found, ty);
+            *fits = *fits && found.same(ty);
             Ok(Opd::Val(Id { region: 0, k }))
         }
         _ => {

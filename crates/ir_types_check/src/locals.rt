@@ -77,7 +77,7 @@ impl<'a> Locals<'a> {
     ) -> Result<(), ResolveRefusal>
         ensures { Gives (λ _. self.new) result (locals.with_param line self.old param.now) }
     {
-        let at = self.at.behind_param(param)?;
+        let at = self.at.past_param(param)?;
         let meaning = Meaning::Value {
             place: self.at.place,
             ty: param.ty,
@@ -110,7 +110,7 @@ impl<'a> Locals<'a> {
     fn add_label(&mut self, alloc: Global, line: u32, name: &'a [u8]) -> Result<(), ResolveRefusal>
         ensures { Gives (λ _. self.new) result (locals.with_label line self.old name.now) }
     {
-        let at = self.at.behind_label(name)?;
+        let at = self.at.after_label(name)?;
         self.add(alloc, line, name, Meaning::Block(self.at.blocks), at)
     }
 
@@ -130,7 +130,7 @@ impl<'a> Locals<'a> {
     fn add_result(&mut self, alloc: Global, line: u32, stmt: &'a Stmt) -> Result<(), ResolveRefusal>
         ensures { Gives (λ _. self.new) result (locals.with_result line self.old stmt.now stmt.now.result) }
     {
-        let at = self.at.behind_inst(stmt)?;
+        let at = self.at.after_inst(stmt)?;
         match &stmt.result {
             Some(name) => {
                 let meaning = Meaning::Value {

@@ -73,7 +73,7 @@ pub(crate) fn written_name(alloc: Global, name: &Bytes) -> Result<Option<Bytes>,
     }
 }
 
-/// The counter behind a name.
+/// The counter after a name.
 fn after_name(next: u32, name: &[u8]) -> Result<u32, AllocError>
     ensures { IfOk result (λ after. after ≡ outline.after_name next name.now) }
 {
@@ -84,7 +84,7 @@ fn after_name(next: u32, name: &[u8]) -> Result<u32, AllocError>
     }
 }
 
-/// The counter behind a result, if there is one.
+/// The counter after a result, if there is one.
 fn after_result(next: u32, name: &Option<Bytes>) -> Result<u32, AllocError>
     ensures { IfOk result (λ after. after ≡ outline.after_result next name.now) }
 {
@@ -94,7 +94,7 @@ fn after_result(next: u32, name: &Option<Bytes>) -> Result<u32, AllocError>
     }
 }
 
-/// The counter behind a parameter.
+/// The counter after a parameter.
 fn after_param(next: u32, name: &Option<Bytes>) -> Result<u32, AllocError>
     ensures { IfOk result (λ after. after ≡ outline.after_param next name.now) }
 {
@@ -127,10 +127,10 @@ impl At {
         }
     }
 
-    /// Behind a parameter.
-    #[tactic(auto, unfolding(crate::specs::Outline::behind_param))]
-    pub(crate) fn behind_param(self, param: &Param) -> Result<At, AllocError>
-        ensures { IfOk result (λ at. at ≡ outline.behind_param self param.now) }
+    /// After a parameter.
+    #[tactic(auto, unfolding(crate::specs::Outline::past_param))]
+    pub(crate) fn past_param(self, param: &Param) -> Result<At, AllocError>
+        ensures { IfOk result (λ at. at ≡ outline.past_param self param.now) }
     {
         let next = after_param(self.next, &param.name)?;
         let place = one_more(self.place)?;
@@ -159,10 +159,10 @@ impl At {
         })
     }
 
-    /// Behind a label.
-    #[tactic(auto, unfolding(crate::specs::Outline::behind_label))]
-    pub(crate) fn behind_label(self, name: &[u8]) -> Result<At, AllocError>
-        ensures { IfOk result (λ at. at ≡ outline.behind_label self name.now) }
+    /// After a label.
+    #[tactic(auto, unfolding(crate::specs::Outline::after_label))]
+    pub(crate) fn after_label(self, name: &[u8]) -> Result<At, AllocError>
+        ensures { IfOk result (λ at. at ≡ outline.after_label self name.now) }
     {
         let next = after_name(self.next, name)?;
         let blocks = one_more(self.blocks)?;
@@ -174,10 +174,10 @@ impl At {
         })
     }
 
-    /// Behind an instruction in the open block.
-    #[tactic(auto, unfolding(crate::specs::Outline::behind_inst))]
-    pub(crate) fn behind_inst(self, stmt: &Stmt) -> Result<At, AllocError>
-        ensures { IfOk result (λ at. at ≡ outline.behind_inst self stmt.now) }
+    /// After an instruction in the open block.
+    #[tactic(auto, unfolding(crate::specs::Outline::after_inst))]
+    pub(crate) fn after_inst(self, stmt: &Stmt) -> Result<At, AllocError>
+        ensures { IfOk result (λ at. at ≡ outline.after_inst self stmt.now) }
     {
         let next = after_result(self.next, &stmt.result)?;
         let place = one_more(self.place)?;
@@ -190,13 +190,13 @@ impl At {
         })
     }
 
-    /// Behind a line.
-    pub(crate) fn behind(self, form: &Line) -> Result<At, AllocError>
-        ensures { IfOk result (λ at. at ≡ outline.behind self form.now) }
+    /// After a line.
+    pub(crate) fn past(self, form: &Line) -> Result<At, AllocError>
+        ensures { IfOk result (λ at. at ≡ outline.past self form.now) }
     {
         match form {
-            Line::Label(name) => self.behind_label(name.as_slice()),
-            Line::Stmt(stmt) => self.opened()?.behind_inst(stmt),
+            Line::Label(name) => self.after_label(name.as_slice()),
+            Line::Stmt(stmt) => self.opened()?.after_inst(stmt),
             _ => Ok(self),
         }
     }

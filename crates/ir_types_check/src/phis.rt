@@ -10,7 +10,6 @@ ghost use Rattle.ir_types_check.specs.Typed as typed;
 use crate::edges::{Sources, numbers_at};
 use crate::locals::Meaning;
 use crate::scope::{Scope, copied};
-use crate::types::same_ty;
 use ir_line::{Arg, Stmt, Written};
 use ir_types::{Bytes, Literal};
 use std::alloc::{AllocError, Global};
@@ -72,7 +71,7 @@ fn same_lanes(left: &[Lane], right: &[Lane]) -> bool
 fn same_literal(left: &Literal, right: &Literal) -> bool
     ensures { result ≡ typed.same_literal left.now right.now }
 {
-    same_ty(left.ty, right.ty)
+    left.ty.same(right.ty)
         && same_lanes(
             left.lanes.as_lanes().as_slice(),
             right.lanes.as_lanes().as_slice(),

@@ -12,7 +12,7 @@ ghost use Rattle.ir_types_check.specs.Resolved as resolved;
 ghost use Rattle.ir_types_check.specs.Typed as typed;
 
 use crate::ResolveRefusal;
-use crate::building::Done;
+use crate::building::{Done, Function};
 use crate::locals::locals_of;
 use crate::scope::Scope;
 use crate::tops::Top;
@@ -59,17 +59,15 @@ impl Sweep {
         &mut self,
         alloc: Global,
         tops: &Scope<'static, Top>,
-        line: u32,
-        head: &Head,
-        body: &[Numbered],
+        func: Function,
     ) -> Result<(), ResolveRefusal>
-        ensures own { Gives (λ done. done) result (order.own_names (FuncItem line head.now body.now)) }
-        ensures linked { OnOk result (self.new.linked ≡ order.where_known self.old.linked (λ done. resolved.resolved_function tops.now line done head.now body.now)) }
-        ensures typed { OnOk result (IfOk self.new.linked (λ _. order.told self.new.ill ≡ order.first_told self.old.ill (typed.function_typed tops.now line head.now body.now))) }
+        ensures own { Gives (λ done. done) result (order.own_names (FuncItem func.entry.line func.entry.head.now func.entry.body.now)) }
+        ensures linked { OnOk result (self.new.linked ≡ order.where_known self.old.linked (λ done. resolved.resolved_function tops.now func.entry.line done func.entry.head.now func.entry.body.now)) }
+        ensures typed { OnOk result (IfOk self.new.linked (λ _. order.told self.new.ill ≡ order.first_told self.old.ill (typed.function_typed tops.now func.entry.line func.entry.head.now func.entry.body.now))) }
     {
-        let own = locals_of(alloc, line, head, body)?;
+        let own = locals_of(alloc, func.line, func.head, func.body)?;
         let outcome = match &mut self.linked {
-            Ok(done) => done.add_function(alloc, tops, &own, line, head, body, &mut self.ill),
+            Ok(done) => done.add_function(alloc, tops, &own, func, &mut self.ill),
             Err(_) => return Ok(()),
         };
         match outcome {
@@ -104,7 +102,12 @@ impl Sweep {
                 text,
             } => self.add_kept(Item::Opaque(text))?,
             DraftItem::Func { line, head, body } => {
-                self.add_function(alloc, tops, line, &head, body.as_slice())?
+                let func = Function {
+                    line,
+                    head: &head,
+                    body: body.as_slice(),
+                };
+                self.add_function(alloc, tops, func)?
             }
         }
         Ok(())

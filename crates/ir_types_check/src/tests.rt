@@ -133,7 +133,7 @@ fn is_fine(rt: &impl Abort, alloc: Global, lines: &[&[u8]], at: &[u32]) -> Resul
 #[test]
 fn names_that_are_unknown(rt: HostRuntime) -> Result<(), Fail> {
     let alloc = rt.alloc();
-    // a callee in front of its argument, behind what is ill typed
+    // a callee in front of its argument, after what is ill typed
     is_unknown(
         &rt,
         alloc,

@@ -19,7 +19,7 @@ use crate::links::lane_of;
 use crate::locals::Meaning;
 use crate::phis::phi_fits;
 use crate::scope::Scope;
-use crate::types::{calls, first_ty, same_ty};
+use crate::types::{calls, first_ty};
 use ir_line::{Line, Numbered, Stmt};
 use ir_types::{Literal, Op, Ty};
 use std::alloc::{AllocError, Global};
@@ -54,7 +54,7 @@ fn op_fits(alloc: Global, known: &Context, here: u32, stmt: &Stmt) -> Result<boo
     ensures { IfOk result (λ fits. fits ≡ typed.op_fits known.now.tops.now known.now.locals.now known.now.ret known.now.sources.now here stmt.now stmt.now.op) }
 {
     match &stmt.op {
-        Op::Ret => Ok(same_ty(first_ty(stmt.args.as_slice()), known.ret)),
+        Op::Ret => Ok(first_ty(stmt.args.as_slice()).same(known.ret)),
         Op::Phi { blocks } => {
             phi_fits(
                 alloc,
@@ -114,7 +114,7 @@ fn choice_fits(
 ) -> bool
     ensures { result ≡ typed.choice_fits locals.now ty seen.now (record { line = line; value = value.now; label = label.now }) }
 {
-    same_ty(value.ty, ty) && !seen.contains(case_number(value)) && number_of(locals, label) != 0
+    value.ty.same(ty) && !seen.contains(case_number(value)) && number_of(locals, label) != 0
 }
 
 /// The cases at the front of these lines.
@@ -143,7 +143,7 @@ fn choices_typed(
     Ok(())
 }
 
-/// The cases of a statement, behind which these lines follow.
+/// The cases of a statement, after which these lines follow.
 fn cases_typed(
     alloc: Global,
     locals: &Scope<Meaning>,

@@ -13,26 +13,13 @@ use crate::tops::Top;
 use ir_line::{Arg, Written};
 use ir_types::Ty;
 
-/// Whether two types are one.
-pub(crate) fn same_ty(left: Ty, right: Ty) -> bool
-    ensures { result ≡ typed.same_ty left right }
-{
-    match (left, right) {
-        (Ty::Void, Ty::Void) => true,
-        (Ty::Int(w), Ty::Int(v)) => w == v,
-        (Ty::Ptr, Ty::Ptr) => true,
-        (Ty::Row { n, w }, Ty::Row { n: m, w: v }) => n == m && w == v,
-        _ => false,
-    }
-}
-
 /// Whether an operand has the type that is written for it.
 fn arg_fits(locals: &Scope<Meaning>, arg: &Arg) -> bool
     ensures { result ≡ typed.arg_fits locals.now arg.now }
 {
     match &arg.opd {
         Written::Local(name) => match locals.get(name.as_slice()) {
-            Some(Meaning::Value { place: _, ty }) => same_ty(*ty, arg.ty),
+            Some(Meaning::Value { place: _, ty }) => ty.same(arg.ty),
             _ => false,
         },
         _ => true,
@@ -73,7 +60,7 @@ fn takes(params: &[Ty], args: &[Arg]) -> bool
         let [arg, more @ ..] = args else {
             return false;
         };
-        if !same_ty(*param, arg.ty) {
+        if !param.same(arg.ty) {
             return false;
         }
         params = others;
@@ -88,7 +75,7 @@ pub(crate) fn calls(tops: &Scope<Top>, callee: &[u8], ty: Ty, args: &[Arg]) -> b
 {
     match tops.get(callee) {
         Some(Top::Function(signature)) => {
-            same_ty(signature.ret, ty) && takes(signature.params.as_slice(), args)
+            signature.ret.same(ty) && takes(signature.params.as_slice(), args)
         }
         _ => false,
     }

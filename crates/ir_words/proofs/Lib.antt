@@ -1,3 +1,4 @@
 pub mod FirstBytes
+pub mod LaneLists
 pub mod Lists
 pub mod Tables

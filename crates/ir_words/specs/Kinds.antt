@@ -2,6 +2,7 @@
 use Rattle.std.specs.Prelude.{◌≡◌, refl, ℕ, Bool, true, false, not, ◌&&◌, ◌||◌, nat_eq, nat_lt}
 use Rattle.ir_types.specs.declared.ty.Ty.{Ty}
 use Rattle.ir_types.specs.declared.ty.Ty.TheVariants.{Void, Int, Ptr, Row}
+use Rattle.ir_types.specs.Typed.{lane_width, same_ty}
 use Rattle.ir_words.specs.declared.kinds.Kind.{Kind}
 use Rattle.ir_words.specs.declared.kinds.Kind.TheVariants.{Integer, Number, Byte, Stored, Value, Vector, Pointer, Bit, Choice, ChosenBy, Same, LaneOf, Mask, WiderThan, NarrowerThan}
 
@@ -17,24 +18,10 @@ abbrev pub is_pointer : Ty → Bool
 is_pointer Ptr = true
 is_pointer _ = false
 
--- the bits of an integer, or of a vector's lane
-abbrev pub bits_of : Ty → ℕ
-bits_of (Int w) = w
-bits_of (Row n w) = w
-bits_of _ = 0
-
 -- the lanes of a vector
 abbrev pub lanes_of : Ty → ℕ
 lanes_of (Row n w) = n
 lanes_of _ = 0
-
--- whether both are one type
-abbrev pub is_same : Ty → Ty → Bool
-is_same Void Void = true
-is_same (Int w) (Int v) = nat_eq w v
-is_same Ptr Ptr = true
-is_same (Row n w) (Row m v) = nat_eq n m && nat_eq w v
-is_same _ _ = false
 
 -- whether a condition of the first type chooses values of the second: a vector chooses lane by lane
 abbrev pub is_chosen : Ty → Ty → Bool
@@ -51,19 +38,19 @@ is_cast _ _ = false
 abbrev pub fits : Kind → Ty → Bool
 fits Integer t = is_integer t
 fits Number t = is_integer t || is_vector t
-fits Byte t = is_integer t && not (nat_eq (bits_of t) 1)
-fits Stored t = (is_integer t || is_vector t) && not (nat_eq (bits_of t) 1)
+fits Byte t = is_integer t && not (nat_eq (lane_width t) 1)
+fits Stored t = (is_integer t || is_vector t) && not (nat_eq (lane_width t) 1)
 fits Value t = true
 fits Vector t = is_vector t
 fits Pointer t = is_pointer t
-fits Bit t = is_integer t && nat_eq (bits_of t) 1
-fits Choice t = nat_eq (bits_of t) 1
+fits Bit t = is_integer t && nat_eq (lane_width t) 1
+fits Choice t = nat_eq (lane_width t) 1
 fits (ChosenBy c) t = is_chosen c t
-fits (Same u) t = is_same t u
-fits (LaneOf u) t = is_integer t && nat_eq (bits_of t) (bits_of u)
-fits Mask t = is_vector t && nat_eq (bits_of t) 32
-fits (WiderThan u) t = is_cast u t && nat_lt (bits_of u) (bits_of t)
-fits (NarrowerThan u) t = is_cast u t && nat_lt (bits_of t) (bits_of u)
+fits (Same u) t = same_ty t u
+fits (LaneOf u) t = is_integer t && nat_eq (lane_width t) (lane_width u)
+fits Mask t = is_vector t && nat_eq (lane_width t) 32
+fits (WiderThan u) t = is_cast u t && nat_lt (lane_width u) (lane_width t)
+fits (NarrowerThan u) t = is_cast u t && nat_lt (lane_width t) (lane_width u)
 
 -- `<4 x i1>` chooses among `<4 x i32>`
 lanes_chosen : fits (ChosenBy (Row 4 1)) (Row 4 32) ≡ true

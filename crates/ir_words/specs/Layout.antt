@@ -28,20 +28,20 @@ is_64 (Some n) = nat_eq n 64
 abbrev pub is_other_size : List ℕ → Bool
 is_other_size bs = not (is_64 (number_of (take (prefix_len in_field bs) bs)))
 
--- whether a colon stands here, and behind it another size
-abbrev pub other_behind_colon : List ℕ → Bool
-other_behind_colon [] = false
-other_behind_colon (b ∷ bs) = nat_eq b 58 && is_other_size bs
+-- whether a colon stands here, and after it another size
+abbrev pub other_after_colon : List ℕ → Bool
+other_after_colon [] = false
+other_after_colon (b ∷ bs) = nat_eq b 58 && is_other_size bs
 
 -- whether a `0` does, in front of those
-abbrev pub other_behind_zero : List ℕ → Bool
-other_behind_zero [] = false
-other_behind_zero (b ∷ bs) = nat_eq b 48 && other_behind_colon bs
+abbrev pub other_after_zero : List ℕ → Bool
+other_after_zero [] = false
+other_after_zero (b ∷ bs) = nat_eq b 48 && other_after_colon bs
 
 -- whether the first part begins with `p:` or `p0:` and has another size
 abbrev pub is_other : List ℕ → Bool
 is_other [] = false
-is_other (b ∷ bs) = nat_eq b 112 && (other_behind_colon bs || other_behind_zero bs)
+is_other (b ∷ bs) = nat_eq b 112 && (other_after_colon bs || other_after_zero bs)
 
 -- whether a part passes: `starts` says that one begins here
 abbrev pub any_big : Bool → List ℕ → Bool
@@ -52,7 +52,7 @@ abbrev pub any_other : Bool → List ℕ → Bool
 any_other starts [] = false
 any_other starts (b ∷ bs) = starts && is_other (b ∷ bs) || any_other (nat_eq b 45) bs
 
--- the bytes behind the opening quote of the first string
+-- the bytes after the opening quote of the first string
 abbrev pub string_of : Words → List ℕ
 string_of [] = []
 string_of ([] ∷ ts) = string_of ts

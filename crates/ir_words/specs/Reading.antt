@@ -14,7 +14,7 @@ use Rattle.ir_draft.specs.declared.written.Written.{Written}
 use Rattle.ir_draft.specs.declared.written.Written.TheVariants.{Lit}
 use Rattle.ir_words.specs.Kinds.{fits}
 use Rattle.ir_words.specs.Values.{width_of, lane_of}
-use Rattle.ir_words.specs.Words.{Words, one, expect, is_first, behind}
+use Rattle.ir_words.specs.Words.{Words, one, expect, is_first, after_first}
 
 -- flags
 
@@ -71,8 +71,8 @@ int_at ts = one width_of ts >>= (λ w. Some (Int w.0, w.1))
 
 unfoldable pub ty_at : Words → Option (Ty × Words)
 ty_at ts =
-    cond (is_first (codes "ptr") ts) (Some (Ptr, behind ts))
-    (cond (is_first (codes "<") ts) (row_at (behind ts)) (int_at ts))
+    cond (is_first (codes "ptr") ts) (Some (Ptr, after_first ts))
+    (cond (is_first (codes "<") ts) (row_at (after_first ts)) (int_at ts))
 
 unfoldable pub kind_at : Kind → Words → Option (Ty × Words)
 kind_at k ts = ty_at ts >>= (λ t. when (fits k t.0) t)
@@ -85,14 +85,14 @@ typed_lane w ts = do
   l ← one (lane_of w) v.1
   when (nat_eq v.0 w) l
 
--- more lanes behind one, where a comma follows; the words `bound` only count
+-- more lanes after one, where a comma follows; the words `bound` only count
 abbrev pub with_front : List (Option ℕ) → Option (List (Option ℕ) × Words) → Option (List (Option ℕ) × Words)
 with_front ls read = read >>= (λ x. Some (ls ++ x.0, x.1))
 
 abbrev pub lanes_within : Words → ℕ → Words → Option (List (Option ℕ) × Words)
 lanes_within [] w ts = None
 lanes_within (_ ∷ bound) w ts = typed_lane w ts >>= (λ l.
-    cond (is_first (codes ",") l.1) (with_front (l.0 ∷ []) (lanes_within bound w (behind l.1))) (expect (codes ">") l.1 >>= (λ rest. Some (l.0 ∷ [], rest))))
+    cond (is_first (codes ",") l.1) (with_front (l.0 ∷ []) (lanes_within bound w (after_first l.1))) (expect (codes ">") l.1 >>= (λ rest. Some (l.0 ∷ [], rest))))
 
 unfoldable pub listed_at : ℕ → ℕ → Words → Option (List (Option ℕ) × Words)
 listed_at n w ts = lanes_within ts w ts >>= (λ x. when (nat_eq (length x.0) n) x)
@@ -106,9 +106,9 @@ splat_at n w ts = do
 
 unfoldable pub row_lanes : ℕ → ℕ → Words → Option (List (Option ℕ) × Words)
 row_lanes n w ts =
-    cond (is_first (codes "poison") ts) (Some (replicate n None, behind ts))
-    (cond (is_first (codes "zeroinitializer") ts) (Some (replicate n (Some 0), behind ts))
-    (cond (is_first (codes "splat") ts) (splat_at n w (behind ts))
+    cond (is_first (codes "poison") ts) (Some (replicate n None, after_first ts))
+    (cond (is_first (codes "zeroinitializer") ts) (Some (replicate n (Some 0), after_first ts))
+    (cond (is_first (codes "splat") ts) (splat_at n w (after_first ts))
     (expect (codes "<") ts >>= (λ rest. listed_at n w rest))))
 
 -- the lanes of a literal of a type
@@ -140,4 +140,4 @@ array_at ts = do
   Some (Array n.0 w.0, b)
 
 unfoldable pub elem_at : Kind → Words → Option (Elem × Words)
-elem_at k ts = cond (is_first (codes "[") ts) (array_at (behind ts)) (kind_at k ts >>= (λ t. Some (One t.0, t.1)))
+elem_at k ts = cond (is_first (codes "[") ts) (array_at (after_first ts)) (kind_at k ts >>= (λ t. Some (One t.0, t.1)))

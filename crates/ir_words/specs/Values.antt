@@ -57,7 +57,7 @@ plain_number [] = []
 plain_number (d ∷ []) = d ∷ []
 plain_number (d ∷ e ∷ ds) = cond (nat_eq d 48) (plain_number (e ∷ ds)) (d ∷ e ∷ ds)
 
--- the name behind `%`: a plain one, or a number by its value; a quoted one is none
+-- the name after `%`: a plain one, or a number by its value; a quoted one is none
 unfoldable pub named : List ℕ → Option (List ℕ)
 named [] = None
 named (b ∷ bs) = cond (nat_eq b quote) None (Some (cond (is_ascii_digit b) (plain_number (b ∷ bs)) (b ∷ bs)))
@@ -66,7 +66,7 @@ unfoldable pub local_of : List ℕ → Option (List ℕ)
 local_of [] = None
 local_of (b ∷ bs) = cond (nat_eq b 37) (named bs) None
 
--- the plain name behind `@`
+-- the plain name after `@`
 abbrev pub unquoted : List ℕ → Option (List ℕ)
 unquoted [] = None
 unquoted (b ∷ bs) = cond (nat_eq b quote) None (Some (b ∷ bs))

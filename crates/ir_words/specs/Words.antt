@@ -34,9 +34,9 @@ is_first v [] = false
 is_first v (t ∷ ts) = bytes_eq t v
 
 -- what follows the first word
-abbrev pub behind : Words → Words
-behind [] = []
-behind (t ∷ ts) = ts
+abbrev pub after_first : Words → Words
+after_first [] = []
+after_first (t ∷ ts) = ts
 
 -- the first value of a list whose spelling the word is
 abbrev pub by_word : {A : Type 0} → (A → List ℕ) → List A → List ℕ → Option A

@@ -3,13 +3,12 @@
 //! `flags` stops where a flag stands twice.
 
 ghost use Rattle.std.specs.Prelude.{◌≡◌, ◌≤◌, length};
-ghost use Rattle.ir_lex.specs.Words.{words};
+ghost use Rattle.ir_words.specs.Cursors.{left};
 ghost use Rattle.ir_words.specs.Words.{Gives};
 ghost use Rattle.ir_words.specs.Reading as reading;
 
-use crate::words::is;
+use crate::cursor::{Cursor, same_word};
 use ir_draft::Stop;
-use ir_lex::{Token, text};
 
 /// The flags that an operation can have.
 #[derive(Clone, Copy)]
@@ -36,22 +35,24 @@ fn allows(set: FlagSet, word: &[u8]) -> bool
 {
     match set {
         FlagSet::Plain => false,
-        FlagSet::Wrap => is(word, b"nuw") || is(word, b"nsw"),
-        FlagSet::Exact => is(word, b"exact"),
-        FlagSet::Disjoint => is(word, b"disjoint"),
-        FlagSet::NonNegative => is(word, b"nneg"),
-        FlagSet::Address => is(word, b"inbounds") || is(word, b"nuw") || is(word, b"nusw"),
-        FlagSet::SameSign => is(word, b"samesign"),
+        FlagSet::Wrap => same_word(word, b"nuw") || same_word(word, b"nsw"),
+        FlagSet::Exact => same_word(word, b"exact"),
+        FlagSet::Disjoint => same_word(word, b"disjoint"),
+        FlagSet::NonNegative => same_word(word, b"nneg"),
+        FlagSet::Address => same_word(word, b"inbounds")
+            || same_word(word, b"nuw")
+            || same_word(word, b"nusw"),
+        FlagSet::SameSign => same_word(word, b"samesign"),
     }
 }
 
 /// Whether the word is among these.
-pub fn has(line: &[u8], tokens: &[Token], word: &[u8]) -> bool
-    ensures { result ≡ reading.has word.now (words line.now tokens.now) }
+pub fn has(at: Cursor, word: &[u8]) -> bool
+    ensures { result ≡ reading.has word.now (left at.entry) }
 {
-    let mut rest = tokens;
-    'each: while let [token, after @ ..] = rest {
-        if is(text(line, *token), word) {
+    let mut rest = at;
+    'each: while let Some((found, after)) = rest.split_first() {
+        if same_word(found, word) {
             return true;
         }
         rest = after;
@@ -60,12 +61,12 @@ pub fn has(line: &[u8], tokens: &[Token], word: &[u8]) -> bool
 }
 
 /// Whether each of these words stands once.
-fn is_distinct(line: &[u8], tokens: &[Token]) -> bool
-    ensures { result ≡ reading.is_distinct (words line.now tokens.now) }
+fn is_distinct(at: Cursor) -> bool
+    ensures { result ≡ reading.is_distinct (left at.entry) }
 {
-    let mut rest = tokens;
-    'each: while let [token, after @ ..] = rest {
-        if has(line, after, text(line, *token)) {
+    let mut rest = at;
+    'each: while let Some((word, after)) = rest.split_first() {
+        if has(after, word) {
             return false;
         }
         rest = after;
@@ -74,14 +75,13 @@ fn is_distinct(line: &[u8], tokens: &[Token]) -> bool
 }
 
 /// How many words at the front are flags of the set.
-fn flags_len(set: FlagSet, line: &[u8], tokens: &[Token]) -> usize
-    ensures value { result ≡ reading.flags_len set (words line.now tokens.now) }
-    ensures within { result ≤ length tokens.now }
+fn flags_len(set: FlagSet, at: Cursor) -> usize
+    ensures { result ≡ reading.flags_len set (left at.entry) }
 {
     let mut count = 0;
-    let mut rest = tokens;
-    'each: while let [token, after @ ..] = rest {
-        if !allows(set, text(line, *token)) {
+    let mut rest = at;
+    'each: while let Some((word, after)) = rest.split_first() {
+        if !allows(set, word) {
             return count;
         }
         count += 1;
@@ -90,28 +90,22 @@ fn flags_len(set: FlagSet, line: &[u8], tokens: &[Token]) -> usize
     count
 }
 
-/// The flags of the set at the front, and what is left.
+/// The flags of the set at the front, and what is left after them.
 #[tactic(auto, unfolding(crate::specs::Reading::flags_at))]
-pub fn flags<'a>(
-    set: FlagSet,
-    line: &'a [u8],
-    tokens: &'a [Token],
-) -> Result<(&'a [Token], &'a [Token]), Stop>
-    ensures { Gives (λ x. (words line.now x.0.now, words line.now x.1.now)) result (reading.flags_at set (words line.now tokens.now)) }
+pub fn flags<'a>(set: FlagSet, at: Cursor<'a>) -> Result<(Cursor<'a>, Cursor<'a>), Stop>
+    ensures { Gives (λ x. (left x.0, left x.1)) result (reading.flags_at set (left at.entry)) }
 {
-    let (found, rest) = split(line, tokens, flags_len(set, line, tokens));
-    if is_distinct(line, found) {
+    let (found, rest) = split(at, flags_len(set, at));
+    if is_distinct(found) {
         Ok((found, rest))
     } else {
         Err(Stop::NotALine)
     }
 }
 
-/// So many tokens at the front, and the rest.
-pub fn split<'a>(line: &'a [u8], tokens: &'a [Token], count: usize) -> (&'a [Token], &'a [Token])
-    requires { count ≤ length tokens.now }
-    ensures { (words line.now result.0.now, words line.now result.1.now) ≡ reading.split count (words line.now tokens.now) }
+/// So many words at the front, and the rest.
+fn split<'a>(at: Cursor<'a>, count: usize) -> (Cursor<'a>, Cursor<'a>)
+    ensures { (left result.0, left result.1) ≡ reading.split count (left at.entry) }
 {
-    let _ = line;
-    tokens.split_at(count)
+    (at.front(count), at.skip(count))
 }

@@ -63,17 +63,6 @@ pub fn is_pointer(ty: Ty) -> bool
     matches!(ty, Ty::Ptr)
 }
 
-/// The bits of an integer or of a lane; 0 of others.
-pub fn bits_of(ty: Ty) -> u8
-    ensures { result ≡ kinds.bits_of ty }
-{
-    match ty {
-        Ty::Int(w) => w,
-        Ty::Row { n: _, w } => w,
-        Ty::Void | Ty::Ptr => 0,
-    }
-}
-
 /// The lanes of a vector; 0 of others.
 pub fn lanes_of(ty: Ty) -> u8
     ensures { result ≡ kinds.lanes_of ty }
@@ -81,19 +70,6 @@ pub fn lanes_of(ty: Ty) -> u8
     match ty {
         Ty::Row { n, w: _ } => n,
         Ty::Void | Ty::Int(_) | Ty::Ptr => 0,
-    }
-}
-
-/// Whether both are one type.
-fn is_same(ty: Ty, other: Ty) -> bool
-    ensures { result ≡ kinds.is_same ty other }
-{
-    match (ty, other) {
-        (Ty::Void, Ty::Void) => true,
-        (Ty::Int(w), Ty::Int(v)) => w == v,
-        (Ty::Ptr, Ty::Ptr) => true,
-        (Ty::Row { n, w }, Ty::Row { n: m, w: v }) => n == m && w == v,
-        _ => false,
     }
 }
 
@@ -114,19 +90,19 @@ pub fn fits(kind: Kind, ty: Ty) -> bool
     match kind {
         Kind::Integer => is_integer(ty),
         Kind::Number => is_integer(ty) || is_vector(ty),
-        Kind::Byte => is_integer(ty) && bits_of(ty) != 1,
-        Kind::Stored => (is_integer(ty) || is_vector(ty)) && bits_of(ty) != 1,
+        Kind::Byte => is_integer(ty) && ty.lane_width() != 1,
+        Kind::Stored => (is_integer(ty) || is_vector(ty)) && ty.lane_width() != 1,
         Kind::Value => true,
         Kind::Vector => is_vector(ty),
         Kind::Pointer => is_pointer(ty),
-        Kind::Bit => is_integer(ty) && bits_of(ty) == 1,
-        Kind::Choice => bits_of(ty) == 1,
+        Kind::Bit => is_integer(ty) && ty.lane_width() == 1,
+        Kind::Choice => ty.lane_width() == 1,
         Kind::ChosenBy(condition) => is_chosen(condition, ty),
-        Kind::Same(other) => is_same(ty, other),
-        Kind::LaneOf(row) => is_integer(ty) && bits_of(ty) == bits_of(row),
-        Kind::Mask => is_vector(ty) && bits_of(ty) == 32,
-        Kind::WiderThan(other) => is_cast(other, ty) && bits_of(other) < bits_of(ty),
-        Kind::NarrowerThan(other) => is_cast(other, ty) && bits_of(ty) < bits_of(other),
+        Kind::Same(other) => ty.same(other),
+        Kind::LaneOf(row) => is_integer(ty) && ty.lane_width() == row.lane_width(),
+        Kind::Mask => is_vector(ty) && ty.lane_width() == 32,
+        Kind::WiderThan(other) => is_cast(other, ty) && other.lane_width() < ty.lane_width(),
+        Kind::NarrowerThan(other) => is_cast(other, ty) && ty.lane_width() < other.lane_width(),
     }
 }
 

@@ -1,13 +1,13 @@
 //! What the string of a `target datalayout` line says of byte order and of pointers.
 //!
-//! Nothing here fails. The string is read behind its opening quote; its closing quote ends its last part.
+//! Nothing here fails. The string is read after its opening quote; its closing quote ends its last part.
 
 ghost use Rattle.std.specs.Prelude.{◌≡◌, ◌≤◌, length, true};
 ghost use Rattle.std.specs.List.{prefix_len};
-ghost use Rattle.ir_lex.specs.Words.{words};
+ghost use Rattle.ir_words.specs.Cursors.{left};
 ghost use Rattle.ir_words.specs.Layout as layout;
 
-use ir_lex::{Token, text};
+use crate::cursor::Cursor;
 use vx_digits::number;
 
 /// Whether a part of the string ends here.
@@ -56,9 +56,9 @@ fn is_other_size(bytes: &[u8]) -> bool
     }
 }
 
-/// Whether a colon stands here, and behind it another size.
-fn other_behind_colon(bytes: &[u8]) -> bool
-    ensures { result ≡ layout.other_behind_colon bytes.now }
+/// Whether a colon stands here, and after it another size.
+fn other_after_colon(bytes: &[u8]) -> bool
+    ensures { result ≡ layout.other_after_colon bytes.now }
 {
     match bytes {
         [] => false,
@@ -67,12 +67,12 @@ fn other_behind_colon(bytes: &[u8]) -> bool
 }
 
 /// Whether a `0` stands here, in front of those.
-fn other_behind_zero(bytes: &[u8]) -> bool
-    ensures { result ≡ layout.other_behind_zero bytes.now }
+fn other_after_zero(bytes: &[u8]) -> bool
+    ensures { result ≡ layout.other_after_zero bytes.now }
 {
     match bytes {
         [] => false,
-        [byte, rest @ ..] => *byte == b'0' && other_behind_colon(rest),
+        [byte, rest @ ..] => *byte == b'0' && other_after_colon(rest),
     }
 }
 
@@ -82,7 +82,7 @@ fn is_other(bytes: &[u8]) -> bool
 {
     match bytes {
         [] => false,
-        [byte, rest @ ..] => *byte == b'p' && (other_behind_colon(rest) || other_behind_zero(rest)),
+        [byte, rest @ ..] => *byte == b'p' && (other_after_colon(rest) || other_after_zero(rest)),
     }
 }
 
@@ -118,13 +118,13 @@ pub fn any_other(bytes: &[u8]) -> bool
     false
 }
 
-/// The bytes behind the opening quote of the first string.
-pub fn string_of<'a>(line: &'a [u8], tokens: &'a [Token]) -> &'a [u8]
-    ensures { result.now ≡ layout.string_of (words line.now tokens.now) }
+/// The bytes after the opening quote of the first string.
+pub fn string_of<'a>(at: Cursor<'a>) -> &'a [u8]
+    ensures { result.now ≡ layout.string_of (left at.entry) }
 {
-    let mut rest = tokens;
-    'each: while let [token, after @ ..] = rest {
-        if let [b'"', string @ ..] = text(line, *token) {
+    let mut rest = at;
+    'each: while let Some((word, after)) = rest.split_first() {
+        if let [b'"', string @ ..] = word {
             return string;
         }
         rest = after;

@@ -2,37 +2,36 @@
 //!
 //! Each reader stops where no literal of the type stands there.
 
-ghost use Rattle.std.specs.Prelude.{◌≡◌, ◌∷◌, [], IfOk, replicate};
+ghost use Rattle.std.specs.Prelude.{◌≡◌, ◌∷◌, [], IfOk};
 ghost use Rattle.ir_types.specs.declared.ty.Ty.TheVariants.{Int};
-ghost use Rattle.ir_lex.specs.Words.{words};
+ghost use Rattle.ir_words.specs.Cursors.{left};
 ghost use Rattle.ir_words.specs.Words.{Gives, one};
 ghost use Rattle.ir_words.specs.Values as values;
 ghost use Rattle.ir_words.specs.Reading as reading;
 
+use crate::cursor::Cursor;
 use crate::types::width;
 use crate::values::lane_of;
-use crate::words::{behind, expect, is_first, next};
 use ir_draft::{Stop, Written};
-use ir_lex::Token;
 use ir_types::{Literal, Lits, Ty};
 use std::alloc::{AllocError, Global};
 use vx_num::Lane;
 
 /// A lane of `w` bits.
-fn lane<'a>(w: u8, line: &'a [u8], tokens: &'a [Token]) -> Result<(Lane, &'a [Token]), Stop>
-    ensures { Gives (λ x. (x.0, words line.now x.1.now)) result (one (values.lane_of w) (words line.now tokens.now)) }
+fn lane<'a>(w: u8, at: Cursor<'a>) -> Result<(Lane, Cursor<'a>), Stop>
+    ensures { Gives (λ x. (x.0, left x.1)) result (one (values.lane_of w) (left at.entry)) }
 {
-    let (word, rest) = next(line, tokens)?;
+    let (word, rest) = at.next()?;
     Ok((lane_of(w, word)?, rest))
 }
 
-/// A lane of `w` bits behind its type.
+/// A lane of `w` bits after its type.
 #[tactic(auto, unfolding(crate::specs::Reading::typed_lane))]
-fn typed_lane<'a>(w: u8, line: &'a [u8], tokens: &'a [Token]) -> Result<(Lane, &'a [Token]), Stop>
-    ensures { Gives (λ x. (x.0, words line.now x.1.now)) result (reading.typed_lane w (words line.now tokens.now)) }
+fn typed_lane<'a>(w: u8, at: Cursor<'a>) -> Result<(Lane, Cursor<'a>), Stop>
+    ensures { Gives (λ x. (x.0, left x.1)) result (reading.typed_lane w (left at.entry)) }
 {
-    let (written, rest) = width(line, tokens)?;
-    let (lane, rest) = lane(w, line, rest)?;
+    let (written, rest) = width(at)?;
+    let (lane, rest) = lane(w, rest)?;
     if written == w {
         Ok((lane, rest))
     } else {
@@ -40,43 +39,31 @@ fn typed_lane<'a>(w: u8, line: &'a [u8], tokens: &'a [Token]) -> Result<(Lane, &
     }
 }
 
-/// The lanes of a list, with the `>` behind them.
-fn lanes_within<'a>(
-    alloc: Global,
-    w: u8,
-    line: &'a [u8],
-    tokens: &'a [Token],
-) -> Result<(Lits, &'a [Token]), Stop>
-    ensures { Gives (λ x. (x.0, words line.now x.1.now)) result (reading.lanes_within (words line.now tokens.now) w (words line.now tokens.now)) }
+/// The lanes of a list, with the `>` after them.
+fn lanes_within<'a>(alloc: Global, w: u8, at: Cursor<'a>) -> Result<(Lits, Cursor<'a>), Stop>
+    ensures { Gives (λ x. (x.0, left x.1)) result (reading.lanes_within (left at.entry) w (left at.entry)) }
 {
     let mut found = Lits::new(alloc);
-    let mut rest = tokens;
-    let mut bound = tokens;
+    let mut rest = at;
+    let mut bound = at.tokens;
     'each: while let [_, fewer @ ..] = bound {
         bound = fewer;
-        let (lane, after) = typed_lane(w, line, rest)?;
+        let (lane, after) = typed_lane(w, rest)?;
         found.push(lane)?;
-        if !is_first(line, after, b",") {
-            let after = expect(line, after, b">")?;
-            return Ok((found, after));
+        if !after.begins(b",") {
+            return Ok((found, after.expect(b">")?));
         }
-        rest = behind(line, after);
+        rest = after.after_first();
     }
     Err(Stop::NotALine)
 }
 
-/// A list of `n` lanes behind its `<`.
+/// A list of `n` lanes after its `<`.
 #[tactic(auto, unfolding(crate::specs::Reading::listed_at))]
-fn listed<'a>(
-    alloc: Global,
-    n: u8,
-    w: u8,
-    line: &'a [u8],
-    tokens: &'a [Token],
-) -> Result<(Lits, &'a [Token]), Stop>
-    ensures { Gives (λ x. (x.0, words line.now x.1.now)) result (reading.listed_at n w (words line.now tokens.now)) }
+fn listed<'a>(alloc: Global, n: u8, w: u8, at: Cursor<'a>) -> Result<(Lits, Cursor<'a>), Stop>
+    ensures { Gives (λ x. (x.0, left x.1)) result (reading.listed_at n w (left at.entry)) }
 {
-    let (found, rest) = lanes_within(alloc, w, line, tokens)?;
+    let (found, rest) = lanes_within(alloc, w, at)?;
     if found.len() == n as usize {
         Ok((found, rest))
     } else {
@@ -84,56 +71,33 @@ fn listed<'a>(
     }
 }
 
-/// The same lane so many times.
-fn repeated(alloc: Global, n: u8, lane: Lane) -> Result<Lits, AllocError>
-    ensures { IfOk result (λ x. x ≡ replicate n lane) }
-{
-    let mut lanes = Lits::new(alloc);
-    'each: for _ in 0..n {
-        lanes.push(lane)?;
-    }
-    Ok(lanes)
-}
-
-/// A lane that stands for all, behind its `splat`.
+/// A lane that stands for all, after its `splat`.
 #[tactic(auto, unfolding(crate::specs::Reading::splat_at))]
-fn splat<'a>(
-    alloc: Global,
-    n: u8,
-    w: u8,
-    line: &'a [u8],
-    tokens: &'a [Token],
-) -> Result<(Lits, &'a [Token]), Stop>
-    ensures { Gives (λ x. (x.0, words line.now x.1.now)) result (reading.splat_at n w (words line.now tokens.now)) }
+fn splat<'a>(alloc: Global, n: u8, w: u8, at: Cursor<'a>) -> Result<(Lits, Cursor<'a>), Stop>
+    ensures { Gives (λ x. (x.0, left x.1)) result (reading.splat_at n w (left at.entry)) }
 {
-    let rest = expect(line, tokens, b"(")?;
-    let (lane, rest) = typed_lane(w, line, rest)?;
-    let rest = expect(line, rest, b")")?;
-    Ok((repeated(alloc, n, lane)?, rest))
+    let rest = at.expect(b"(")?;
+    let (lane, rest) = typed_lane(w, rest)?;
+    let rest = rest.expect(b")")?;
+    Ok((Lits::repeated(alloc, n, lane)?, rest))
 }
 
 /// The lanes of a vector.
 #[tactic(auto, unfolding(crate::specs::Reading::row_lanes))]
-fn row_lanes<'a>(
-    alloc: Global,
-    n: u8,
-    w: u8,
-    line: &'a [u8],
-    tokens: &'a [Token],
-) -> Result<(Lits, &'a [Token]), Stop>
-    ensures { Gives (λ x. (x.0, words line.now x.1.now)) result (reading.row_lanes n w (words line.now tokens.now)) }
+fn row_lanes<'a>(alloc: Global, n: u8, w: u8, at: Cursor<'a>) -> Result<(Lits, Cursor<'a>), Stop>
+    ensures { Gives (λ x. (x.0, left x.1)) result (reading.row_lanes n w (left at.entry)) }
 {
-    if is_first(line, tokens, b"poison") {
-        return Ok((repeated(alloc, n, None)?, behind(line, tokens)));
+    if at.begins(b"poison") {
+        return Ok((Lits::repeated(alloc, n, None)?, at.after_first()));
     }
-    if is_first(line, tokens, b"zeroinitializer") {
-        return Ok((repeated(alloc, n, Some(0))?, behind(line, tokens)));
+    if at.begins(b"zeroinitializer") {
+        return Ok((Lits::repeated(alloc, n, Some(0))?, at.after_first()));
     }
-    if is_first(line, tokens, b"splat") {
-        return splat(alloc, n, w, line, behind(line, tokens));
+    if at.begins(b"splat") {
+        return splat(alloc, n, w, at.after_first());
     }
-    let rest = expect(line, tokens, b"<")?;
-    listed(alloc, n, w, line, rest)
+    let rest = at.expect(b"<")?;
+    listed(alloc, n, w, rest)
 }
 
 /// One lane as a list.
@@ -147,49 +111,34 @@ fn single(alloc: Global, lane: Lane) -> Result<Lits, AllocError>
 
 /// The lanes of an integer.
 #[tactic(auto, unfolding(crate::specs::Reading::lanes_at))]
-fn int_lanes<'a>(
-    alloc: Global,
-    w: u8,
-    line: &'a [u8],
-    tokens: &'a [Token],
-) -> Result<(Lits, &'a [Token]), Stop>
-    ensures { Gives (λ x. (x.0, words line.now x.1.now)) result (reading.lanes_at (Int w) (words line.now tokens.now)) }
+fn int_lanes<'a>(alloc: Global, w: u8, at: Cursor<'a>) -> Result<(Lits, Cursor<'a>), Stop>
+    ensures { Gives (λ x. (x.0, left x.1)) result (reading.lanes_at (Int w) (left at.entry)) }
 {
-    let (lane, rest) = lane(w, line, tokens)?;
+    let (lane, rest) = lane(w, at)?;
     Ok((single(alloc, lane)?, rest))
 }
 
 /// The lanes of a literal of a type.
 #[tactic(auto, unfolding(crate::specs::Reading::lanes_at))]
-pub fn lanes<'a>(
-    alloc: Global,
-    ty: Ty,
-    line: &'a [u8],
-    tokens: &'a [Token],
-) -> Result<(Lits, &'a [Token]), Stop>
-    ensures { Gives (λ x. (x.0, words line.now x.1.now)) result (reading.lanes_at ty (words line.now tokens.now)) }
+pub fn lanes<'a>(alloc: Global, ty: Ty, at: Cursor<'a>) -> Result<(Lits, Cursor<'a>), Stop>
+    ensures { Gives (λ x. (x.0, left x.1)) result (reading.lanes_at ty (left at.entry)) }
 {
     match ty {
         Ty::Void => Err(Stop::NotALine),
         Ty::Ptr => {
-            let rest = expect(line, tokens, b"poison")?;
+            let rest = at.expect(b"poison")?;
             Ok((single(alloc, None)?, rest))
         }
-        Ty::Int(w) => int_lanes(alloc, w, line, tokens),
-        Ty::Row { n, w } => row_lanes(alloc, n, w, line, tokens),
+        Ty::Int(w) => int_lanes(alloc, w, at),
+        Ty::Row { n, w } => row_lanes(alloc, n, w, at),
     }
 }
 
 /// A literal of a type.
 #[tactic(auto, unfolding(crate::specs::Reading::literal_at))]
-pub fn literal<'a>(
-    alloc: Global,
-    ty: Ty,
-    line: &'a [u8],
-    tokens: &'a [Token],
-) -> Result<(Written, &'a [Token]), Stop>
-    ensures { Gives (λ x. (x.0, words line.now x.1.now)) result (reading.literal_at ty (words line.now tokens.now)) }
+pub fn literal<'a>(alloc: Global, ty: Ty, at: Cursor<'a>) -> Result<(Written, Cursor<'a>), Stop>
+    ensures { Gives (λ x. (x.0, left x.1)) result (reading.literal_at ty (left at.entry)) }
 {
-    let (lanes, rest) = lanes(alloc, ty, line, tokens)?;
+    let (lanes, rest) = lanes(alloc, ty, at)?;
     Ok((Written::Lit(Literal { ty, lanes }), rest))
 }

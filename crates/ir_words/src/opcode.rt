@@ -6,7 +6,7 @@ ghost use Rattle.std.specs.Prelude.{◌≡◌};
 ghost use Rattle.ir_words.specs.Words.{Gives};
 ghost use Rattle.ir_words.specs.Values as values;
 
-use crate::words::is;
+use crate::cursor::same_word;
 use ir_draft::Stop;
 use vx_num::{BinOp, CastOp, Pred};
 
@@ -105,25 +105,25 @@ fn four_opcode(word: &[u8]) -> Option<Opcode>
 fn long_opcode(word: &[u8]) -> Option<Opcode>
     ensures { result ≡ values.long_opcode_of word.now }
 {
-    if is(word, b"getelementptr") {
+    if same_word(word, b"getelementptr") {
         return Some(Opcode::Gep);
     }
-    if is(word, b"trunc") {
+    if same_word(word, b"trunc") {
         return Some(Opcode::Cast(CastOp::Trunc));
     }
-    if is(word, b"select") {
+    if same_word(word, b"select") {
         return Some(Opcode::Select);
     }
-    if is(word, b"alloca") {
+    if same_word(word, b"alloca") {
         return Some(Opcode::Alloca);
     }
-    if is(word, b"extractelement") {
+    if same_word(word, b"extractelement") {
         return Some(Opcode::Extract);
     }
-    if is(word, b"insertelement") {
+    if same_word(word, b"insertelement") {
         return Some(Opcode::Insert);
     }
-    if is(word, b"shufflevector") {
+    if same_word(word, b"shufflevector") {
         return Some(Opcode::Shuffle);
     }
     None
@@ -146,10 +146,10 @@ pub fn act_of(word: &[u8]) -> Result<Act, Stop>
 fn long_act_of(word: &[u8]) -> Result<Act, Stop>
     ensures { Gives (λ x. x) result (values.long_act_of word.now) }
 {
-    if is(word, b"switch") {
+    if same_word(word, b"switch") {
         return Ok(Act::Switch);
     }
-    if is(word, b"unreachable") {
+    if same_word(word, b"unreachable") {
         return Ok(Act::Unreachable);
     }
     Err(Stop::NotALine)

@@ -5,32 +5,31 @@
 ghost use Rattle.std.specs.Prelude.{◌≡◌};
 ghost use Rattle.vx_digits.specs.Numbers as numbers;
 ghost use Rattle.vx_digits.specs.Optional.{when};
-ghost use Rattle.ir_lex.specs.Words.{words};
+ghost use Rattle.ir_words.specs.Cursors.{left};
 ghost use Rattle.ir_words.specs.Words.{Gives, one};
 ghost use Rattle.ir_types.specs.declared.ty.Ty.TheVariants.{Row};
 ghost use Rattle.ir_words.specs.Values as values;
 ghost use Rattle.ir_words.specs.Reading as reading;
 
+use crate::cursor::Cursor;
 use crate::kinds::{Kind, fits};
 use crate::values::{number_of, width_of};
-use crate::words::{behind, expect, is_first, next};
 use ir_draft::Stop;
-use ir_lex::Token;
 use ir_types::{Elem, Ty};
 
 /// The bits of an integer type.
-pub fn width<'a>(line: &'a [u8], tokens: &'a [Token]) -> Result<(u8, &'a [Token]), Stop>
-    ensures { Gives (λ x. (x.0, words line.now x.1.now)) result (one values.width_of (words line.now tokens.now)) }
+pub fn width<'a>(at: Cursor<'a>) -> Result<(u8, Cursor<'a>), Stop>
+    ensures { Gives (λ x. (x.0, left x.1)) result (one values.width_of (left at.entry)) }
 {
-    let (word, rest) = next(line, tokens)?;
+    let (word, rest) = at.next()?;
     Ok((width_of(word)?, rest))
 }
 
 /// A number.
-fn number<'a>(line: &'a [u8], tokens: &'a [Token]) -> Result<(u64, &'a [Token]), Stop>
-    ensures { Gives (λ x. (x.0, words line.now x.1.now)) result (one numbers.number_of (words line.now tokens.now)) }
+fn number<'a>(at: Cursor<'a>) -> Result<(u64, Cursor<'a>), Stop>
+    ensures { Gives (λ x. (x.0, left x.1)) result (one numbers.number_of (left at.entry)) }
 {
-    let (word, rest) = next(line, tokens)?;
+    let (word, rest) = at.next()?;
     Ok((number_of(word)?, rest))
 }
 
@@ -46,46 +45,46 @@ pub fn row_of(n: u64, w: u8) -> Result<Ty, Stop>
     Err(Stop::NotALine)
 }
 
-/// A vector type behind its `<`.
+/// A vector type after its `<`.
 #[tactic(auto, unfolding(crate::specs::Reading::row_at))]
-fn row<'a>(line: &'a [u8], tokens: &'a [Token]) -> Result<(Ty, &'a [Token]), Stop>
-    ensures { Gives (λ x. (x.0, words line.now x.1.now)) result (reading.row_at (words line.now tokens.now)) }
+fn row<'a>(at: Cursor<'a>) -> Result<(Ty, Cursor<'a>), Stop>
+    ensures { Gives (λ x. (x.0, left x.1)) result (reading.row_at (left at.entry)) }
 {
-    let (n, rest) = number(line, tokens)?;
-    let rest = expect(line, rest, b"x")?;
-    let (w, rest) = width(line, rest)?;
-    let rest = expect(line, rest, b">")?;
+    let (n, rest) = number(at)?;
+    let rest = rest.expect(b"x")?;
+    let (w, rest) = width(rest)?;
+    let rest = rest.expect(b">")?;
     Ok((row_of(n, w)?, rest))
 }
 
 /// An integer type.
-fn integer<'a>(line: &'a [u8], tokens: &'a [Token]) -> Result<(Ty, &'a [Token]), Stop>
-    ensures { Gives (λ x. (x.0, words line.now x.1.now)) result (reading.int_at (words line.now tokens.now)) }
+fn integer<'a>(at: Cursor<'a>) -> Result<(Ty, Cursor<'a>), Stop>
+    ensures { Gives (λ x. (x.0, left x.1)) result (reading.int_at (left at.entry)) }
 {
-    let (w, rest) = width(line, tokens)?;
+    let (w, rest) = width(at)?;
     Ok((Ty::Int(w), rest))
 }
 
 /// A type.
 #[tactic(auto, unfolding(crate::specs::Reading::ty_at))]
-pub fn ty<'a>(line: &'a [u8], tokens: &'a [Token]) -> Result<(Ty, &'a [Token]), Stop>
-    ensures { Gives (λ x. (x.0, words line.now x.1.now)) result (reading.ty_at (words line.now tokens.now)) }
+pub fn ty<'a>(at: Cursor<'a>) -> Result<(Ty, Cursor<'a>), Stop>
+    ensures { Gives (λ x. (x.0, left x.1)) result (reading.ty_at (left at.entry)) }
 {
-    if is_first(line, tokens, b"ptr") {
-        return Ok((Ty::Ptr, behind(line, tokens)));
+    if at.begins(b"ptr") {
+        return Ok((Ty::Ptr, at.after_first()));
     }
-    if is_first(line, tokens, b"<") {
-        return row(line, behind(line, tokens));
+    if at.begins(b"<") {
+        return row(at.after_first());
     }
-    integer(line, tokens)
+    integer(at)
 }
 
 /// A type of a kind.
 #[tactic(auto, unfolding(crate::specs::Reading::kind_at))]
-pub fn kind<'a>(kind: Kind, line: &'a [u8], tokens: &'a [Token]) -> Result<(Ty, &'a [Token]), Stop>
-    ensures { Gives (λ x. (x.0, words line.now x.1.now)) result (reading.kind_at kind (words line.now tokens.now)) }
+pub fn kind<'a>(kind: Kind, at: Cursor<'a>) -> Result<(Ty, Cursor<'a>), Stop>
+    ensures { Gives (λ x. (x.0, left x.1)) result (reading.kind_at kind (left at.entry)) }
 {
-    let (ty, rest) = ty(line, tokens)?;
+    let (ty, rest) = ty(at)?;
     if fits(kind, ty) {
         Ok((ty, rest))
     } else {
@@ -116,41 +115,41 @@ fn item_of(word: &[u8]) -> Result<u8, Stop>
 }
 
 /// The length of an array.
-fn array_length<'a>(line: &'a [u8], tokens: &'a [Token]) -> Result<(u64, &'a [Token]), Stop>
-    ensures { Gives (λ x. (x.0, words line.now x.1.now)) result (one reading.length_of (words line.now tokens.now)) }
+fn array_length<'a>(at: Cursor<'a>) -> Result<(u64, Cursor<'a>), Stop>
+    ensures { Gives (λ x. (x.0, left x.1)) result (one reading.length_of (left at.entry)) }
 {
-    let (word, rest) = next(line, tokens)?;
+    let (word, rest) = at.next()?;
     Ok((length_of(word)?, rest))
 }
 
 /// The bits of an array's element.
-fn item<'a>(line: &'a [u8], tokens: &'a [Token]) -> Result<(u8, &'a [Token]), Stop>
-    ensures { Gives (λ x. (x.0, words line.now x.1.now)) result (one reading.item_of (words line.now tokens.now)) }
+fn item<'a>(at: Cursor<'a>) -> Result<(u8, Cursor<'a>), Stop>
+    ensures { Gives (λ x. (x.0, left x.1)) result (one reading.item_of (left at.entry)) }
 {
-    let (word, rest) = next(line, tokens)?;
+    let (word, rest) = at.next()?;
     Ok((item_of(word)?, rest))
 }
 
-/// An array type behind its `[`.
+/// An array type after its `[`.
 #[tactic(auto, unfolding(crate::specs::Reading::array_at))]
-fn array<'a>(line: &'a [u8], tokens: &'a [Token]) -> Result<(Elem, &'a [Token]), Stop>
-    ensures { Gives (λ x. (x.0, words line.now x.1.now)) result (reading.array_at (words line.now tokens.now)) }
+fn array<'a>(at: Cursor<'a>) -> Result<(Elem, Cursor<'a>), Stop>
+    ensures { Gives (λ x. (x.0, left x.1)) result (reading.array_at (left at.entry)) }
 {
-    let (n, rest) = array_length(line, tokens)?;
-    let rest = expect(line, rest, b"x")?;
-    let (w, rest) = item(line, rest)?;
-    let rest = expect(line, rest, b"]")?;
+    let (n, rest) = array_length(at)?;
+    let rest = rest.expect(b"x")?;
+    let (w, rest) = item(rest)?;
+    let rest = rest.expect(b"]")?;
     Ok((Elem::Array { n, w }, rest))
 }
 
 /// One value of a kind, or an array.
 #[tactic(auto, unfolding(crate::specs::Reading::elem_at))]
-pub fn elem<'a>(one: Kind, line: &'a [u8], tokens: &'a [Token]) -> Result<(Elem, &'a [Token]), Stop>
-    ensures { Gives (λ x. (x.0, words line.now x.1.now)) result (reading.elem_at one (words line.now tokens.now)) }
+pub fn elem<'a>(one: Kind, at: Cursor<'a>) -> Result<(Elem, Cursor<'a>), Stop>
+    ensures { Gives (λ x. (x.0, left x.1)) result (reading.elem_at one (left at.entry)) }
 {
-    if is_first(line, tokens, b"[") {
-        return array(line, behind(line, tokens));
+    if at.begins(b"[") {
+        return array(at.after_first());
     }
-    let (ty, rest) = kind(one, line, tokens)?;
+    let (ty, rest) = kind(one, at)?;
     Ok((Elem::One(ty), rest))
 }

@@ -11,7 +11,7 @@ ghost use Rattle.ir_words.specs.Values.{is_some};
 ghost use Rattle.ir_words.specs.Words.{Gives};
 ghost use Rattle.ir_words.specs.Values as values;
 
-use crate::words::is;
+use crate::cursor::same_word;
 use ir_draft::Stop;
 use ir_types::Bytes;
 use std::alloc::{AllocError, Global};
@@ -70,10 +70,10 @@ fn decimal_of(w: u8, word: &[u8]) -> Result<u64, Stop>
 pub fn bits_number(w: u8, word: &[u8]) -> Result<u64, Stop>
     ensures { Gives (λ x. x) result (values.bits_number w word.now) }
 {
-    if is(word, b"true") && w == 1 {
+    if same_word(word, b"true") && w == 1 {
         return Ok(1);
     }
-    if is(word, b"false") && w == 1 {
+    if same_word(word, b"false") && w == 1 {
         return Ok(0);
     }
     decimal_of(w, word)
@@ -84,7 +84,7 @@ pub fn bits_number(w: u8, word: &[u8]) -> Result<u64, Stop>
 pub fn lane_of(w: u8, word: &[u8]) -> Result<Lane, Stop>
     ensures { Gives (λ x. x) result (values.lane_of w word.now) }
 {
-    if is(word, b"poison") {
+    if same_word(word, b"poison") {
         return Ok(None);
     }
     let n = bits_number(w, word)?;
@@ -112,7 +112,7 @@ fn plain_number(digits: &[u8]) -> &[u8]
     rest
 }
 
-/// The name behind `%`.
+/// The name after `%`.
 #[tactic(auto, unfolding(crate::specs::Values::named))]
 fn named(alloc: Global, name: &[u8]) -> Result<Bytes, Stop>
     ensures { Gives (λ x. x) result (values.named name.now) }

@@ -148,7 +148,7 @@ module _ (m : Module) (f : Func) (formed : IsFormed m) (block : List Inst) (k : 
   KnownSymbol None = Unit {0}
   KnownSymbol (Some x) = k.values x.0 ≡ true
 
-  -- an index, behind which an offset leads on
+  -- an index, after which an offset leads on
   record Indexed (o q : Offset) (w scale : ℕ) (lane : Lane) : Type 0 where
     same : (p : Pointer) → led_to (stepped w scale p lane) (symbol_value types s.env o.symbol) o.constant ≡ led_to p (symbol_value types s.env q.symbol) q.constant
     symbol : KnownSymbol q.symbol

@@ -340,11 +340,11 @@ module _ (m : Module) (f : Func) (walk : List ℕ) (at : ℕ) (b : Block) (phis 
 
 -- ---- places of a list
 
-get_behind : (xs ys : List Inst) (n : ℕ) (i : Inst) → slice_get ys n ≡ Some i → slice_get (xs ++ ys) (length xs + n) ≡ Some i
-get_behind [] ys n i e = ap (slice_get ys) (plain n) ∙ e where
+get_after : (xs ys : List Inst) (n : ℕ) (i : Inst) → slice_get ys n ≡ Some i → slice_get (xs ++ ys) (length xs + n) ≡ Some i
+get_after [] ys n i e = ap (slice_get ys) (plain n) ∙ e where
   plain : (n : ℕ) → 0 + n ≡ n
   plain n = omega arith
-get_behind (x ∷ xs) ys n i e = ap (slice_get (x ∷ xs ++ ys)) (more (length xs) n) ∙ get_behind xs ys n i e where
+get_after (x ∷ xs) ys n i e = ap (slice_get (x ∷ xs ++ ys)) (more (length xs) n) ∙ get_after xs ys n i e where
   more : (a n : ℕ) → suc a + n ≡ suc (a + n)
   more a n = omega arith
 
@@ -353,10 +353,10 @@ get_defines [] q y z e h = absurd cc
 get_defines (j ∷ ys) zero y z e h = let same : j ≡ y = cc in or_first (same_id j.id z) (defines z ys) (ap (λ (j : Inst). same_id j.id z) same ∙ h)
 get_defines (j ∷ ys) (suc q) y z e h = or_second (same_id j.id z) (defines z ys) (get_defines ys q y z e h)
 
-pub behind_defines : (xs ys : List Inst) (q : ℕ) (y : Inst) (z : Id) → slice_get (xs ++ ys) q ≡ Some y → length xs ≤ q → same_id y.id z ≡ true → defines z ys ≡ true
-behind_defines [] ys q y z e less h = get_defines ys q y z e h
-behind_defines (x ∷ xs) ys zero y z e less h = absurd (omega arith)
-behind_defines (x ∷ xs) ys (suc q) y z e less h = behind_defines xs ys q y z e (omega arith) h
+pub after_defines : (xs ys : List Inst) (q : ℕ) (y : Inst) (z : Id) → slice_get (xs ++ ys) q ≡ Some y → length xs ≤ q → same_id y.id z ≡ true → defines z ys ≡ true
+after_defines [] ys q y z e less h = get_defines ys q y z e h
+after_defines (x ∷ xs) ys zero y z e less h = absurd (omega arith)
+after_defines (x ∷ xs) ys (suc q) y z e less h = after_defines xs ys q y z e (omega arith) h
 
 -- where an id is defined
 record Defined (is : List Inst) (z : Id) : Type 0 where
@@ -386,7 +386,7 @@ not_false : (b : Bool) → not b ≡ true → b ≡ false
 not_false false h = refl
 not_false true h = absurd cc
 
--- what is found and not behind the phis is a phi
+-- what is found and not after the phis is a phi
 found_phi : (phis body : List Inst) (x : Id) (i : Inst) → ArePhis phis → defines x body ≡ false → find x (phis ++ body) ≡ Some i → is_phi i.op ≡ true
 found_phi [] body x i are none e = absurd (let no = sym (find_none body x (sym (defines_among x body) ∙ none)) ∙ e in cc)
 found_phi (j ∷ phis) body x i are none e = by_test (same_id j.id x) e (λ d. found_phi phis body x i are.1 none d) where
@@ -422,7 +422,7 @@ module _ (m : Module) (f : Func) (walk : List ℕ) (at : ℕ) (b : Block) (phis 
   Start = entry m f walk at b phis before insts last after cut
 
   pub on_body : (n : ℕ) (i : Inst) → slice_get Rest n ≡ Some i → slice_get b.insts (length phis + n) ≡ Some i
-  on_body n i e = ap (λ is. slice_get is (length phis + n)) cut.parts ∙ get_behind phis Rest n i e
+  on_body n i e = ap (λ is. slice_get is (length phis + n)) cut.parts ∙ get_after phis Rest n i e
 
   once_in : Once (Ids b.insts)
   once_in = once_here m f walk at b phis before insts last after cut
@@ -469,7 +469,7 @@ module _ (m : Module) (f : Func) (walk : List ℕ) (at : ℕ) (b : Block) (phis 
       outside : defines z Rest ≡ false → (stands_on f z (length phis) walk ≡ true) ⊎ Earlier m f walk at b phis before insts last after cut z (length phis) (length phis + length front) → (defines z front || Start.values z) ≡ true
       outside d (inl h) = or_second (defines z front) (Start.values z) (ap (λ t. not t && stands_on f z (length phis) walk) d ∙ h)
       outside d (inr e) =
-          absurd (true_false (sym (behind_defines phis Rest e.place e.inst z (ap (λ is. slice_get is e.place) (sym cut.parts) ∙ e.here) e.from e.is) ∙ d))
+          absurd (true_false (sym (after_defines phis Rest e.place e.inst z (ap (λ is. slice_get is e.place) (sym cut.parts) ∙ e.here) e.from e.is) ∙ d))
 
       plain_sum : (n : ℕ) → n ≡ 0 + n
       plain_sum n = omega arith

@@ -31,7 +31,7 @@ use Rattle.rf_order.specs.Ready.{Known, next, MayRunAll, has_kind, is_known, IsR
 use Rattle.rf_order.specs.Blocks.{IsEntered, IsCut, ExitsAreEntered}
 use Rattle.rf_order.proofs.Shapes.{never_kinds, step_ready}
 use Rattle.rf_order.proofs.Refined.{insts_append}
-use Rattle.rf_order.proofs.Blocks.{behind_defines, defines_append, get_middle, of_items, item, once_all, once, func, entry, Earlier, back, on_body, all_run, entered_ready, ends_none}
+use Rattle.rf_order.proofs.Blocks.{after_defines, defines_append, get_middle, of_items, item, once_all, once, func, entry, Earlier, back, on_body, all_run, entered_ready, ends_none}
 use Rattle.vx_serial.proofs.Decided.{or_case, or_first, or_second, true_false}
 
 -- ---- after instructions
@@ -123,7 +123,7 @@ module _ (m : Module) (f : Func) (walk : List ℕ) (at : ℕ) (b : Block) (phis 
     outside : defines x (insts ++ last ∷ []) ≡ false → (stands_on f x (length phis) walk ≡ true) ⊎ Earlier m f walk at b phis [] insts last [] cut x (length phis) (length phis + (length insts + 1)) →
         (same_id last.id x ≡ true) ⊎ ((all_next Start insts).values x ≡ true)
     outside d (inl s) = inr (next_values insts Start x (or_second (defines x insts) (Start.values x) (ap (λ t. not t && stands_on f x (length phis) walk) d ∙ s)))
-    outside d (inr e) = absurd (true_false (sym (behind_defines phis (insts ++ last ∷ []) e.place e.inst x (ap (λ is. slice_get is e.place) (sym cut.parts) ∙ e.here) e.from e.is) ∙ d))
+    outside d (inr e) = absurd (true_false (sym (after_defines phis (insts ++ last ∷ []) e.place e.inst x (ap (λ is. slice_get is e.place) (sym cut.parts) ∙ e.here) e.from e.is) ∙ d))
 
     by_body : (t : Bool) → defines x (insts ++ last ∷ []) ≡ t → (same_id last.id x ≡ true) ⊎ ((all_next Start insts).values x ≡ true)
     by_body true d = in_body (or_case (defines x insts) (same_id last.id x || false) (sym (defines_append x insts (last ∷ [])) ∙ d))

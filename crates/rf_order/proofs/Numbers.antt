@@ -11,7 +11,7 @@ use Rattle.vx_serial.proofs.Decided.{neither, not_true, or_case, or_first, or_se
 abbrev pub also : (ℕ → Bool) → ℕ → ℕ → Bool
 also done y x = (y == x) || done x
 
--- each stands behind all before it in number that it depends on
+-- each stands after all before it in number that it depends on
 abbrev pub Topological : (ℕ → ℕ → Bool) → (ℕ → Bool) → List ℕ → Type 0
 Topological depends done [] = Unit {0}
 Topological depends done (y ∷ ys) = ((x : ℕ) → x < y → depends y x ≡ true → done x ≡ true) × Topological depends (also done y) ys

@@ -1,4 +1,4 @@
--- Whole blocks: the phis are the same in both orders, and what is behind them runs as it stands.
+-- Whole blocks: the phis are the same in both orders, and what is after them runs as it stands.
 use Rattle.std.proofs.Common.{◌≡◌, refl, sym, ap, ◌∙◌, subst, ℕ, ◌⊎◌, inl, inr, Bool, false, cond, Option, List, [], ◌∷◌, ◌++◌, length}
 use Rattle.ir_types.specs.declared.id.Id.{Id}
 use Rattle.ir_types.specs.declared.ty.Ty.{Ty}

@@ -1,4 +1,4 @@
--- What the schedule of groups gives: all places, each group behind those that it has links from.
+-- What the schedule of groups gives: all places, each group after those that it has links from.
 use Rattle.std.proofs.Common.{◌≡◌, refl, sym, ap, ◌∙◌, ℕ, zero, suc, ◌+◌, ◌<◌, ◌≤◌, ◌==◌, ◌⊎◌, inl, inr, Bool, true, false, not, ◌||◌, cond, Option, None, Some, List, [], ◌∷◌, ◌++◌, length, length-append, append-nil, map, filter, find, min, nat_lt, slice_get, get_or, option_and_then, arith}
 use Rattle.std.specs.List.{list_all, range_with_len}
 use Rattle.std.proofs.lemmas.Bool.Decides.{nat_tests}

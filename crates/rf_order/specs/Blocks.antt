@@ -40,7 +40,7 @@ pub record IsEntered (m : Module) (f : Func) (walk : List ℕ) (before : ℕ) (s
   pub within : (a : Opd) → is_known (length m.globals) (λ x. stands_on f x before walk) a ≡ true → has_kind (kind_of m a) ≡ true → NamesOne (length s.memory) (pointer_of (value_of s.env a))
   pub roots : RootsApart m (λ x. stands_on f x before walk) s.env
 
--- a block of a formed module that a walk comes to: its phis, then the instructions before the window, the window, and what is behind it
+-- a block of a formed module that a walk comes to: its phis, then the instructions before the window, the window, and what is after it
 pub record IsCut (m : Module) (f : Func) (walk : List ℕ) (at : ℕ) (b : Block) (phis before insts : List Inst) (last : Inst) (after : List Inst) : Type 0 where
   pub formed : IsFormed m
   pub func : Contains m.items (FuncItem f)
@@ -98,7 +98,7 @@ CameFrom m f walk at None s = at ≡ 0
 CameFrom m f walk at (Some from) s =
     (path : List ℕ) × IsWalk (graph_of f) path × EndsAt path from × HasEdge (graph_of f) from at × IsShaped m f path (length (insts_at f from)) s
 
--- where a block is entered, what its phis come to is entered behind them
+-- where a block is entered, what its phis come to is entered after them
 abbrev pub PhisAreEntered : Type 0
 PhisAreEntered =
     (m : Module) (f : Func) (walk : List ℕ) (at : ℕ) (b : Block) (phis before insts : List Inst) (last : Inst) (after : List Inst) → IsCut m f walk at b phis before insts last after →

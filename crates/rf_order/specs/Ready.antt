@@ -144,13 +144,13 @@ NeighboursSwap =
     MayRun m f block k x → MayRun m f block (next k x) y → depends m block y x ≡ false → IsReady m f block k r.state →
     Instead (steps (types_of f) calls (y ∷ x ∷ []) r) (steps (types_of f) calls (x ∷ y ∷ []) r)
 
--- a row in another order, in which each stands behind all that it depends on
+-- a row in another order, in which each stands after all that it depends on
 abbrev pub RowsRefine : Type 0
 RowsRefine =
     (m : Module) (f : Func) → IsFormed m → (block : List Inst) (calls : Calls) → CallsKeepShapes m calls → CallsKeepObjects calls → (k : Known) (old new : List Inst) (r : Reached) →
     Reordered (depends m block) old new → MayRunAll m f block k old → IsReady m f block k r.state → Instead (steps (types_of f) calls new r) (steps (types_of f) calls old r)
 
--- the window of bundles in its order, and what stands behind it
+-- the window of bundles in its order, and what stands after it
 abbrev pub WindowsRefine : Type 0
 WindowsRefine =
     (m : Module) (f : Func) → IsFormed m → (block : List Inst) (calls : Calls) → CallsKeepShapes m calls → CallsKeepObjects calls → (k : Known) (insts rest : List Inst) (bundles : List (List Id)) →

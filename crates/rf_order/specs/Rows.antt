@@ -19,7 +19,7 @@ abbrev pub NoneBefore : {A : Type 0} → (A → A → Bool) → List A → A →
 NoneBefore depends [] y = Unit {0}
 NoneBefore depends (x ∷ xs) y = (depends y x ≡ false) × NoneBefore depends xs y
 
--- a row in another order, in which each item stands behind all that it depends on: again and again one of the items comes next that
+-- a row in another order, in which each item stands after all that it depends on: again and again one of the items comes next that
 -- depends on none of those before it that are left
 abbrev pub Reordered : {A : Type 0} → (A → A → Bool) → List A → List A → Type 0
 Reordered depends old [] = old ≡ []

@@ -8,7 +8,7 @@ use Rattle.vx_serial.specs.Window.{order_in, joined}
 use Rattle.vx_serial.specs.Bundles.{AreOnce, ids_of, AreBundles}
 use Rattle.rf_order.specs.Rows.{Reordered}
 
--- where a window has an order, its instructions come in it with each behind all that it depends on
+-- where a window has an order, its instructions come in it with each after all that it depends on
 abbrev pub OrdersReorder : Type 0
 OrdersReorder =
     (m : Module) (block insts : List Inst) (bundles : List (List Id)) → AreOnce (ids_of insts) → AreBundles insts bundles →

@@ -20,7 +20,7 @@ pub fn steps_swap()
     ensures { StepsSwap }
 {}
 
-/// Where a window has an order, its instructions come in it with each behind all that it depends on.
+/// Where a window has an order, its instructions come in it with each after all that it depends on.
 pub fn orders_reorder()
     ensures { OrdersReorder }
 {}
@@ -41,12 +41,12 @@ pub fn neighbours_swap()
     ensures { NeighboursSwap }
 {}
 
-/// A row of instructions in another order, each behind all that it depends on, comes to the same, where the old row is defined.
+/// A row of instructions in another order, each after all that it depends on, comes to the same, where the old row is defined.
 pub fn rows_refine()
     ensures { RowsRefine }
 {}
 
-/// A block's window in its order, with what stands behind it, comes to the same, where it was defined.
+/// A block's window in its order, with what stands after it, comes to the same, where it was defined.
 pub fn windows_refine()
     ensures { WindowsRefine }
 {}
@@ -73,7 +73,7 @@ pub fn whole_blocks_refine()
     ensures { WholeBlocksRefine }
 {}
 
-/// Where a block is entered, what its phis come to is entered behind them.
+/// Where a block is entered, what its phis come to is entered after them.
 pub fn phis_are_entered()
     ensures { PhisAreEntered }
 {}

@@ -147,7 +147,7 @@ quiet_step : (t : Id → Ty) (j : Inst) (env : Env) (m : Memory) → Plain j.op 
     step_of t j (at env m) ≡ after_effect env j.id (value_effect (result_of j.op j.ty (map (type_of t) j.opds) (map (value_of env) j.opds)) m)
 quiet_step t j env m p e = ap (after_effect env j.id) (p.quiet e (map (type_of t) j.opds) (map (value_of env) j.opds) m)
 
--- a store that has run, and then the code behind it, against that code with the pair joined
+-- a store that has run, and then the code after it, against that code with the pair joined
 pub paired_with_better : (t : Id → Ty) (start : Env) (is : List Inst) (leads : Leads) (a : LedStore) (new : List Inst) (env : Env) (m m1 : Memory) →
     is_straight is ≡ true → paired_with leads a is ≡ Some new → Known start leads env →
     stored a.align (lane_bytes 4 a.lane) (moved (pointer_of (start a.base)) a.constant) m ≡ Some m1 →

@@ -32,7 +32,7 @@ pub record LaneStore : Type 0 where
 abbrev pub lanes_of : List LaneStore → List Lane
 lanes_of ls = map (λ l. l.lane) ls
 
--- the memory after the store instructions of lanes of w bits, the first through a pointer and each other one behind the one before
+-- the memory after the store instructions of lanes of w bits, the first through a pointer and each other one after the one before
 abbrev pub after_stores : ℕ → Pointer → List LaneStore → Memory → Option Memory
 after_stores w p [] m = Some m
 after_stores w p (l ∷ ls) m =

@@ -16,7 +16,7 @@ ghost use Rattle.vx_serial.specs.Pair.{pair_of};
 ghost use Rattle.rf_pack.specs.Lanes.{OffsetFits, LaneStore, lanes_of, after_store, after_stores};
 
 /// A store of a vector with the pointer and the align of its first lane may stand for the stores of its lanes, of which each is
-/// behind the one before: where all of these are defined, so is the vector's, and the memory is the same.
+/// after the one before: where all of these are defined, so is the vector's, and the memory is the same.
 pub fn row_store_refines()
     ensures { (w : ℕ) (p : Pointer) (l : LaneStore) (ls : List LaneStore) (m : Memory) → w ≤ 64 → OffsetFits p → MayStandFor (after_store l.align (Row (length (l ∷ ls)) w) (RowValue (lanes_of (l ∷ ls))) p m) (after_stores w p (l ∷ ls) m) }
 {}

@@ -119,7 +119,7 @@ module _ (known : Known) (all : List (List ℕ)) where
   Rest n done (Profile o) ls xs = RestInside n done o ls xs
   Rest n done Passing ls xs = RestPassing n done ls xs
 
-  -- the lines behind this one are cut
+  -- the lines after this one are cut
   Next : ℕ → List (List ℕ) → List DraftItem → Type 0
   Next n ls xs = (done : Read) (current : Opened) → items_from known all n (record { done = done; current = current }) (forms_from (is_inside current) ls) ≡ Ok xs → Rest n done current ls xs
 

@@ -1,4 +1,4 @@
--- Pieces of a text that stand one behind the other in a line: their tokens, their words, and the bytes from their first to their
+-- Pieces of a text that stand one after the other in a line: their tokens, their words, and the bytes from their first to their
 -- last token.
 use Rattle.std.proofs.Common.{◌≡◌, ℕ, ◌+◌, ◌≤◌, true, List, [], ◌∷◌, ◌++◌, length, map, drop, None, refl, ◌∙◌, ap, subst, arith}
 use Rattle.std.specs.List.{concat}
@@ -44,7 +44,7 @@ pub pieces_sound : (ps : List (List ℕ)) → ArePieces ps → fault_of (concat 
 pieces_sound [] h = no_fault
 pieces_sound (p ∷ ps) h = fault_both p (concat ps) h.0.sound h.0.ends (pieces_sound ps h.1)
 
--- the tokens of pieces that stand one behind the other: those of the first, then those of the others
+-- the tokens of pieces that stand one after the other: those of the first, then those of the others
 abbrev pub Parts : List ℕ → List (List ℕ) → List Token → Type 0
 Parts line [] ts = ts ≡ []
 Parts line (p ∷ ps) ts = (front : List Token) × (back : List Token) × (ts ≡ front ++ back) × Stands line p front × Parts line ps back
@@ -56,7 +56,7 @@ pieces_stand line (p ∷ ps) ts h s =
     let a : Apart line p (concat ps) ts = stands_append p (concat ps) h.0.sound h.0.ends (pieces_stop ps h.1) s in
     (a.front, a.back, a.whole, a.one, pieces_stand line ps a.back h.1 a.other)
 
--- a part behind its space
+-- a part after its space
 pub spaced_stands : {line : List ℕ} {ts : List Token} (part : List ℕ) → Stands line (spaced part) ts → Stands line part ts
 spaced_stands [] s = s
 spaced_stands (b ∷ bs) s = stands_space s

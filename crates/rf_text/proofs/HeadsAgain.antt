@@ -57,7 +57,7 @@ pub first_token : (line : List ℕ) (ts : List Token) (w : List ℕ) (ws : Words
 first_token line [] w ws e = cc
 first_token line (t ∷ us) w ws e = (t, us, refl, cc, cc)
 
--- the tokens of pieces, in front and behind
+-- the tokens of pieces, in front and after
 pub parts_apart : (line : List ℕ) (ps qs : List (List ℕ)) (ts : List Token) → Parts line (ps ++ qs) ts → (front : List Token) × (back : List Token) × (ts ≡ front ++ back) × Parts line ps front × Parts line qs back
 parts_apart line [] qs ts h = ([], ts, refl, refl, h)
 parts_apart line (p ∷ ps) qs ts (one, rest, whole, stands, more) = here (parts_apart line ps qs rest more) where
@@ -119,13 +119,13 @@ param_token line ns at p ty attrs name rest s typed stand called = here (one_tok
       ap (λ (x : List Token). param_at line at (ty ++ (attrs ++ (x ++ rest)))) one ∙ read
       ∙ ap (λ (x : Param). Some (x, rest)) (param_shown ns at p line attrs l (span_stands alone ∙ a.kept.tight) (a.told ∙ ap (stands (codes "noalias") 0) (sym same)))
 
--- parameters that are read up to their parenthesis, with what stands behind it
+-- parameters that are read up to their parenthesis, with what stands after it
 record ReadTo (line : List ℕ) (at : ℕ) (ps : List Param) (ts : List Token) (after : List ℕ) : Type 0 where
   rest : List Token
   read : ReadsParams line at ps ts rest
   stands : Stands line (spaced after) rest
 
--- the tokens behind the parameters
+-- the tokens after the parameters
 record Closed (line : List ℕ) (ts : List Token) (after : List ℕ) : Type 0 where
   close : Token
   rest : List Token
@@ -166,9 +166,9 @@ params_tokens line ns after at p (q ∷ qs) ty ts s ss typed (attrs, r, e, stand
           ((us : List Token) → words line us ≡ texts (ty_text q.ty) → ReadTo line (at + 1) (shown_params ns (at + 1) (q ∷ qs)) (us ++ r3) after) → ReadTo line at (shown_params ns at (p ∷ q ∷ qs)) (ty ++ ts) after
       here (c, us, one, said, typed2) next =
           let n : ReadTo line (at + 1) (shown_params ns (at + 1) (q ∷ qs)) (us ++ r3) after = next us typed2 in
-          let behind : r2 ≡ c ∷ (us ++ r3) = e3 ∙ ap (λ (x : List Token). x ++ r3) one in
+          let past : r2 ≡ c ∷ (us ++ r3) = e3 ∙ ap (λ (x : List Token). x ++ r3) one in
           let rest : List Token = c ∷ (us ++ r3) in
-          let whole : ty ++ ts ≡ ty ++ (attrs ++ (name ++ rest)) = ap (λ (x : List Token). ty ++ x) (e ∙ ap (λ (x : List Token). attrs ++ x) (e2 ∙ ap (λ (x : List Token). name ++ x) behind)) in
+          let whole : ty ++ ts ≡ ty ++ (attrs ++ (name ++ rest)) = ap (λ (x : List Token). ty ++ x) (e ∙ ap (λ (x : List Token). attrs ++ x) (e2 ∙ ap (λ (x : List Token). name ++ x) past)) in
           let less : length (us ++ r3) < length (ty ++ (attrs ++ (name ++ rest))) = omega (arith, length-append ty (attrs ++ (name ++ rest)), length-append attrs (name ++ rest), length-append name rest) in
           record {
             rest = n.rest;
@@ -177,7 +177,7 @@ params_tokens line ns after at p (q ∷ qs) ty ts s ss typed (attrs, r, e, stand
             stands = n.stands;
           }
 
--- the parameters behind their parenthesis
+-- the parameters after their parenthesis
 record Opened (line : List ℕ) (ps : List Param) (ts : List Token) (after : List ℕ) : Type 0 where
   open_paren : Token
   inside : List Token
@@ -292,7 +292,7 @@ inner_read ns f line ts h (before, r, e, in_front, (ty, r2, e2, typed, (name, r3
           head_reads line before ty n o.open_paren o.inside o.rest f.ret f.name (shown_params ns 0 f.params) (ap (are_passed 0) before_words ∙ sym (same_passed 0 (texts f.before)) ∙ h.parts.in_front.passed) quiet
           (subst (SpellsRet f.ret) (sym ty_words) (ret_spelled f.ret h.parts.returned)) size symbol o.is_open o.read in
           let kept_before : span line before ≡ f.before = span_stands first ∙ h.parts.in_front.kept.tight in
-          let kept_after : span line o.rest ≡ f.after = span_stands last ∙ h.parts.behind.tight in
+          let kept_after : span line o.rest ≡ f.after = span_stands last ∙ h.parts.at_end.tight in
           let rest : Words = word line n ∷ words line (o.open_paren ∷ o.inside) in
           let rest_symbol : first_symbol rest ≡ Some f.name = rw symbol refl in
           let all_words : words line (before ++ (ty ++ (n ∷ o.open_paren ∷ o.inside))) ≡ words line before ++ (words line ty ++ rest) =
@@ -348,7 +348,7 @@ inner_ascii ns f h =
         ap (list_all is_ascii) (texts_space (ty_text f.ret)) ∙ t.ascii,
         (
           ap (list_all is_ascii) (name_texts f.name h.parts.named),
-          ascii_append (params_pieces ns f.params) (tail_pieces f.after) (params_ascii ns f.params (are_shown ns f.params h.parts.typed h.shown)) (ap (list_all is_ascii) close_texts, (spaced_ascii f.after h.parts.behind, tt)),
+          ascii_append (params_pieces ns f.params) (tail_pieces f.after) (params_ascii ns f.params (are_shown ns f.params h.parts.typed h.shown)) (ap (list_all is_ascii) close_texts, (spaced_ascii f.after h.parts.at_end, tt)),
         ),
       ),
     )

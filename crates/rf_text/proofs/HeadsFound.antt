@@ -22,7 +22,7 @@ use Rattle.ir_words.specs.Values.{plain_number, unquoted, named, local_of, symbo
 use Rattle.ir_words.specs.Words.{Words, one, is_first, is_ascii}
 use Rattle.ir_forms.specs.Pieces.{Says}
 use Rattle.ir_words.specs.Reading.{ty_at}
-use Rattle.ir_line.specs.Headers.{last_to, span, depth_after, goes_on, attrs_len, stands, is_banned, ty_len, name_of, behind_name, param, attributed, param_at, params_within, params_at, is_callee, name_from, ret_of, head_of, inner, header}
+use Rattle.ir_line.specs.Headers.{last_to, span, depth_after, goes_on, attrs_len, stands, is_banned, ty_len, name_of, after_name, param, attributed, param_at, params_within, params_at, is_callee, name_from, ret_of, head_of, inner, header}
 use Rattle.ir_forms.proofs.Parts.{ty_taken}
 use Rattle.ir_forms.proofs.Steps.{nothing, some_is, bind_then, cond_then, one_says, bytes_same}
 use Rattle.ir_draft.specs.declared.line.Line.{Line}
@@ -40,7 +40,7 @@ use Rattle.ir_line.proofs.Returns.{ret_is, ret_size, Ends, ret_ends}
 use Rattle.rf_text.proofs.HeadsRead.{words_append, callee_front, passed_front}
 use Rattle.rf_text.proofs.HeadsTyped.{spelled_value, ret_quiet, ret_returned}
 
--- ---- tokens that stand one behind the other in a line
+-- ---- tokens that stand one after the other in a line
 
 -- tokens of a line without a fault, none of which begins with a byte of 128 or above, in one run
 pub record TokenRun (line : List ℕ) (ts : List Token) : Type 0 where
@@ -229,16 +229,16 @@ name_written {line} (t ∷ ts) r = here (local_of (word line t)) refl where
   here None e = rw e refl
   here (Some name) e = rw e (local_name (word line t) name (words_front (word line t ∷ []) (words line ts) (run_words (t ∷ ts) r)) e)
 
-named_run : {line : List ℕ} (name : Option (List ℕ)) (ts : List Token) → TokenRun line ts → TokenRun line (behind_name name ts)
+named_run : {line : List ℕ} (name : Option (List ℕ)) (ts : List Token) → TokenRun line ts → TokenRun line (after_name name ts)
 named_run None ts r = r
 named_run (Some name) ts r = run_drop 1 ts r
 
-named_more : (name : Option (List ℕ)) (ts : List Token) → 0 < length (behind_name name ts) → 0 < length ts
+named_more : (name : Option (List ℕ)) (ts : List Token) → 0 < length (after_name name ts) → 0 < length ts
 named_more None ts l = l
 named_more (Some name) [] l = l
 named_more (Some name) (t ∷ ts) l = omega arith
 
--- a parameter that is read, behind which more tokens stand
+-- a parameter that is read, after which more tokens stand
 record Found (line : List ℕ) (p : Param × List Token) : Type 0 where
   param : Written p.0
   run : TokenRun line p.1
@@ -250,8 +250,8 @@ attributed_found line at t ts p value r e more =
     let attrs : List Token = take k ts in
     let rest : List Token = drop k ts in
     let name : Option (List ℕ) = name_of (words line rest) in
-    cond_then (is_banned (words line attrs)) None (Some (param line at t attrs name, behind_name name rest)) (Some p) e (λ _ none. nothing none) (λ allowed same.
-    let made : (param line at t attrs name, behind_name name rest) ≡ p = some_is same in
+    cond_then (is_banned (words line attrs)) None (Some (param line at t attrs name, after_name name rest)) (Some p) e (λ _ none. nothing none) (λ allowed same.
+    let made : (param line at t attrs name, after_name name rest) ≡ p = some_is same in
     let left : 0 < length rest = named_more name rest (subst (λ (x : Param × List Token). 0 < length x.1) (sym made) more) in
     let within : k < length (words line ts) = omega (arith, length-map ts (word line), length-drop k ts, left) in
     let own : words line attrs ≡ take k (words line ts) = sym (take-map (word line) k ts) in
@@ -396,7 +396,7 @@ head_found line ts h r e =
     let p : AllFound line ps = params_found line (drop 2 (drop n ts)) ps (run_drop 2 (drop n ts) (run_drop n ts r)) ep in
     let after : KeptRun line ps.1 = run_kept ps.1 p.run in
     subst IsHead (some_is same) (record {
-      parts = record { in_front = b.0; returned = b.1; named = name_is (drop n ts) name (run_drop n ts r) es; typed = all_params ps.0 p.params; behind = after.kept };
+      parts = record { in_front = b.0; returned = b.1; named = name_is (drop n ts) name (run_drop n ts r) es; typed = all_params ps.0 p.params; at_end = after.kept };
       written = all_written ps.0 p.params;
     })))))
 

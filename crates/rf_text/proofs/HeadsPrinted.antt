@@ -23,19 +23,19 @@ use Rattle.rf_text.specs.Headed.{is_local_name, IsParam, is_shown, IsHeaded, hea
 use Rattle.rf_text.proofs.HeadWords.{Piece, ArePieces, pieces_append}
 use Rattle.rf_text.proofs.HeadsTypes.{ty_facts, value_facts}
 
--- ---- the pieces of a header, behind `define`
+-- ---- the pieces of a header, after `define`
 
--- parameters behind the first
+-- parameters after the first
 abbrev pub more_pieces : Names → List Param → List (List ℕ)
 more_pieces ns [] = []
 more_pieces ns (p ∷ ps) = (44 ∷ 32 ∷ ty_text p.ty) ∷ spaced p.attrs ∷ (32 ∷ local_text (shown.local_of p.id ns.locals)) ∷ more_pieces ns ps
 
--- parameters behind their parenthesis
+-- parameters after their parenthesis
 abbrev pub params_pieces : Names → List Param → List (List ℕ)
 params_pieces ns [] = (40 ∷ []) ∷ []
 params_pieces ns (p ∷ ps) = (40 ∷ ty_text p.ty) ∷ spaced p.attrs ∷ (32 ∷ local_text (shown.local_of p.id ns.locals)) ∷ more_pieces ns ps
 
--- what stands behind the parameters
+-- what stands after the parameters
 abbrev pub tail_pieces : List ℕ → List (List ℕ)
 tail_pieces after = (41 ∷ []) ∷ spaced after ∷ []
 
@@ -59,15 +59,15 @@ params_pieces_text : (ns : Names) (ps : List Param) → 40 ∷ params_text ns ps
 params_pieces_text ns [] = refl
 params_pieces_text ns (p ∷ ps) = ap (λ (x : List ℕ). 40 ∷ (param_text ns p ++ x)) (more_text ns ps) ∙ ap (λ (x : List ℕ). 40 ∷ x) (param_apart ns p (concat (more_pieces ns ps)))
 
--- the header line is `define` and the pieces behind it
+-- the header line is `define` and the pieces after it
 pub line_pieces : (ns : Names) (f : Func) → header_line ns f ≡ codes "define" ++ concat (inner_pieces ns f ++ (brace ∷ []))
 line_pieces ns f =
     let tail : List ℕ = 41 ∷ (spaced f.after ++ brace) in
     let last : List (List ℕ) = params_pieces ns f.params ++ (tail_pieces f.after ++ (brace ∷ [])) in
-    let behind : concat (params_pieces ns f.params ++ (tail_pieces f.after ++ (brace ∷ []))) ≡ 40 ∷ (params_text ns f.params ++ tail) =
+    let past : concat (params_pieces ns f.params ++ (tail_pieces f.after ++ (brace ∷ []))) ≡ 40 ∷ (params_text ns f.params ++ tail) =
     concat-append (params_pieces ns f.params) (tail_pieces f.after ++ (brace ∷ [])) ∙ ap (λ (x : List ℕ). x ++ tail) (sym (params_pieces_text ns f.params)) in
     let rest : concat ((params_pieces ns f.params ++ tail_pieces f.after) ++ (brace ∷ [])) ≡ 40 ∷ (params_text ns f.params ++ tail) =
-    ap concat (append_assoc (params_pieces ns f.params) (tail_pieces f.after) (brace ∷ [])) ∙ behind in
+    ap concat (append_assoc (params_pieces ns f.params) (tail_pieces f.after) (brace ∷ [])) ∙ past in
     let front : List ℕ → List ℕ = λ x. codes "define" ++ (spaced f.before ++ (32 ∷ (ty_text f.ret ++ (32 ∷ 64 ∷ (f.name ++ x))))) in
     let apart : header_line ns f ≡ front (40 ∷ (params_text ns f.params ++ tail)) = simp append_assoc refl in
     apart ∙ ap front (sym rest)
@@ -90,9 +90,9 @@ space_ends : ends_outside (32 ∷ []) ≡ true
 unfolding ends_outside
 space_ends = refl
 
--- a piece behind a space
-pub behind_space : (bs : List ℕ) → fault_of bs ≡ None → ends_outside bs ≡ true → Piece (32 ∷ bs)
-behind_space bs sound ends = record { sound = fault_both (32 ∷ []) bs space_sound space_ends sound; ends = ends_both (32 ∷ []) bs space_ends ends; apart = space_stops bs }
+-- a piece after a space
+pub after_space : (bs : List ℕ) → fault_of bs ≡ None → ends_outside bs ≡ true → Piece (32 ∷ bs)
+after_space bs sound ends = record { sound = fault_both (32 ∷ []) bs space_sound space_ends sound; ends = ends_both (32 ∷ []) bs space_ends ends; apart = space_stops bs }
 
 nothing_ends : ends_outside [] ≡ true
 unfolding ends_outside
@@ -100,7 +100,7 @@ nothing_ends = refl
 
 pub spaced_piece : (part : List ℕ) → IsKeptPart part → Piece (spaced part)
 spaced_piece [] k = record { sound = refl; ends = nothing_ends; apart = refl }
-spaced_piece (b ∷ bs) k = behind_space (b ∷ bs) k.sound k.ends
+spaced_piece (b ∷ bs) k = after_space (b ∷ bs) k.sound k.ends
 
 word_no_control : (b : ℕ) → is_word_byte b ≡ true → is_control b ≡ false
 unfolding is_word_byte begins_name is_control
@@ -158,7 +158,7 @@ percent_ends = refl
 pub name_piece : (name : List ℕ) → is_name name ≡ true → Piece (32 ∷ 64 ∷ name)
 name_piece name h =
     let w : (fault_of name ≡ None) × (ends_outside name ≡ true) = word_sound name (name_words name h) in
-    behind_space (64 ∷ name) (fault_both (64 ∷ []) name at_sound at_ends w.0) (ends_both (64 ∷ []) name at_ends w.1)
+    after_space (64 ∷ name) (fault_both (64 ∷ []) name at_sound at_ends w.0) (ends_both (64 ∷ []) name at_ends w.1)
 
 pub name_texts : (name : List ℕ) → is_name name ≡ true → texts (32 ∷ 64 ∷ name) ≡ (64 ∷ name) ∷ []
 unfolding is_blank is_sigil
@@ -176,7 +176,7 @@ local_token name h =
 pub local_piece : (name : List ℕ) → is_local_name name ≡ true → Piece (32 ∷ 37 ∷ name)
 local_piece name h =
     let w : (fault_of name ≡ None) × (ends_outside name ≡ true) = word_sound name (local_token name h).1 in
-    behind_space (37 ∷ name) (fault_both (37 ∷ []) name percent_sound percent_ends w.0) (ends_both (37 ∷ []) name percent_ends w.1)
+    after_space (37 ∷ name) (fault_both (37 ∷ []) name percent_sound percent_ends w.0) (ends_both (37 ∷ []) name percent_ends w.1)
 
 pub local_texts : (name : List ℕ) → is_local_name name ≡ true → texts (32 ∷ 37 ∷ name) ≡ (37 ∷ name) ∷ []
 unfolding is_blank
@@ -239,7 +239,7 @@ inner_are ns f h =
         (ty_facts f.ret h.parts.returned).spaced,
         (
           name_piece f.name h.parts.named,
-          pieces_append (params_pieces ns f.params) (tail_pieces f.after) (params_are ns f.params params) (close_piece, (spaced_piece f.after h.parts.behind, tt)),
+          pieces_append (params_pieces ns f.params) (tail_pieces f.after) (params_are ns f.params params) (close_piece, (spaced_piece f.after h.parts.at_end, tt)),
         ),
       ),
     )

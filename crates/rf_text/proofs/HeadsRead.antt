@@ -17,7 +17,7 @@ use Rattle.ir_words.specs.Reading.{ty_at}
 use Rattle.ir_forms.specs.Pieces.{SpellsTy, Integer, Pointer, Vector}
 use Rattle.ir_line.specs.CallSpelling.{SpellsRet}
 use Rattle.ir_line.proofs.Returns.{ret_reads}
-use Rattle.ir_line.specs.Headers.{span, depth_after, goes_on, attrs_len, is_banned, ty_len, name_of, behind_name, param, attributed, param_at, params_within, params_at, is_callee, name_from, last_tokens, whole, ret_of, head_of}
+use Rattle.ir_line.specs.Headers.{span, depth_after, goes_on, attrs_len, is_banned, ty_len, name_of, after_name, param, attributed, param_at, params_within, params_at, is_callee, name_from, last_tokens, whole, ret_of, head_of}
 use Rattle.ir_forms.proofs.Parts.{ty_takes, NoTy, ty_not}
 use Rattle.ir_forms.proofs.Steps.{nothing, apart}
 use Rattle.ir_types.specs.HeaderWords.{are_attributes}
@@ -27,7 +27,7 @@ use Rattle.rf_text.proofs.HeadsTypes.{is_quiet}
 pub words_append : (line : List ℕ) (ts us : List Token) → words line (ts ++ us) ≡ words line ts ++ words line us
 words_append line ts us = map-append (word line) ts us
 
--- a type with more words behind it
+-- a type with more words after it
 pub spells_more : {t : Ty} {ts rest : Words} (more : Words) → SpellsTy t ts rest → SpellsTy t (ts ++ more) (rest ++ more)
 spells_more more (Integer w word rest h) = Integer w word (rest ++ more) h
 spells_more more (Pointer rest) = Pointer (rest ++ more)
@@ -59,12 +59,12 @@ local_stops (b ∷ bs) name e = here (nat_eq b 37) refl e where
 
 -- ---- parameters
 
--- a parameter behind its type, with its attributes and its name
+-- a parameter after its type, with its attributes and its name
 attributed_reads : (line : List ℕ) (at : ℕ) (t : Ty) (attrs rest : List Token) (n : Token) (name : List ℕ) → are_attributes 0 (words line attrs) ≡ true → is_banned (words line attrs) ≡ false → local_of (word line n) ≡ Some name →
     attributed line at t (attrs ++ (n ∷ rest)) ≡ Some (param line at t attrs (Some name), rest)
 unfolding attributed
 attributed_reads line at t attrs rest n name h allowed says =
-    let made : List Token → List Token → Option (Param × List Token) = λ us bs. cond (is_banned (words line us)) None (Some (param line at t us (name_of (words line bs)), behind_name (name_of (words line bs)) bs)) in
+    let made : List Token → List Token → Option (Param × List Token) = λ us bs. cond (is_banned (words line us)) None (Some (param line at t us (name_of (words line bs)), after_name (name_of (words line bs)) bs)) in
     let stop : end_attributes (words line (n ∷ rest)) ≡ true = rw (local_stops (word line n) name says) refl in
     let size : attrs_len 0 (words line (attrs ++ (n ∷ rest))) ≡ length attrs = ap (attrs_len 0) (words_append line attrs (n ∷ rest)) ∙ attrs_exact 0 (words line attrs) (words line (n ∷ rest)) h stop ∙ length-map attrs (word line) in
     ap (λ (k : ℕ). made (take k (attrs ++ (n ∷ rest))) (drop k (attrs ++ (n ∷ rest)))) size ∙ ap (λ (us : List Token). made us (drop (length attrs) (attrs ++ (n ∷ rest)))) (take-append_seam attrs (n ∷ rest))
@@ -75,12 +75,12 @@ pub param_reads : (line : List ℕ) (at : ℕ) (t : Ty) (ty attrs : List Token) 
     are_attributes 0 (words line attrs) ≡ true → is_banned (words line attrs) ≡ false → local_of (word line n) ≡ Some name → param_at line at (ty ++ (attrs ++ (n ∷ rest))) ≡ Some (param line at t attrs (Some name), rest)
 unfolding param_at
 param_reads line at t ty attrs n rest name spelled size h allowed says =
-    let behind : List Token = attrs ++ (n ∷ rest) in
-    let read : ty_at (words line (ty ++ behind)) ≡ Some (t, words line behind) = ap ty_at (words_append line ty behind) ∙ ty_takes (spells_more (words line behind) spelled) in
-    let skip : drop (ty_len t) (ty ++ behind) ≡ behind = ap (λ (k : ℕ). drop k (ty ++ behind)) (sym size) ∙ drop-append_seam ty behind in
-    ap (λ o. o >>= (λ (x : Ty × Words). attributed line at x.0 (drop (ty_len x.0) (ty ++ behind)))) read ∙ ap (attributed line at t) skip ∙ attributed_reads line at t attrs rest n name h allowed says
+    let past : List Token = attrs ++ (n ∷ rest) in
+    let read : ty_at (words line (ty ++ past)) ≡ Some (t, words line past) = ap ty_at (words_append line ty past) ∙ ty_takes (spells_more (words line past) spelled) in
+    let skip : drop (ty_len t) (ty ++ past) ≡ past = ap (λ (k : ℕ). drop k (ty ++ past)) (sym size) ∙ drop-append_seam ty past in
+    ap (λ o. o >>= (λ (x : Ty × Words). attributed line at x.0 (drop (ty_len x.0) (ty ++ past)))) read ∙ ap (attributed line at t) skip ∙ attributed_reads line at t attrs rest n name h allowed says
 
--- parameters joined by commas, with the `)` behind them
+-- parameters joined by commas, with the `)` after them
 pub data ReadsParams (line : List ℕ) : ℕ → List Param → List Token → List Token → Type 0 where
   LastParam : (at : ℕ) (p : Param) (ts : List Token) (c : Token) (rest : List Token) → param_at line at ts ≡ Some (p, c ∷ rest) → word line c ≡ codes ")" → 0 < length ts → ReadsParams line at (p ∷ []) ts rest
   MoreParams : (at : ℕ) (p : Param) (ps : List Param) (ts : List Token) (c : Token) (us rest : List Token) → param_at line at ts ≡ Some (p, c ∷ us) → word line c ≡ codes "," → length us < length ts →
@@ -125,7 +125,7 @@ no_symbol : symbol_of (codes "(") ≡ None
 unfolding symbol_of
 no_symbol = refl
 
--- a word of words that are passed, and those behind it
+-- a word of words that are passed, and those after it
 record Passed (d : ℕ) (t : List ℕ) (ts : Words) : Type 0 where
   no_callee : is_callee d t ts ≡ false
   no_close : nat_eq d 0 && bytes_eq t (codes ")") ≡ false
@@ -140,17 +140,17 @@ passed_is d t ts h =
 is_passed : (d : ℕ) (t : List ℕ) (ts : Words) → Passed d t ts → are_passed d (t ∷ ts) ≡ true
 is_passed d t ts p = rw (p.no_callee, p.no_close, p.more) refl
 
--- the first plain name with `(` behind it stands behind the words that are passed
-pub named_behind : (n d : ℕ) (ws : Words) (f o name : List ℕ) (rest : Words) → are_passed d ws ≡ true → symbol_of f ≡ Some name → o ≡ codes "(" → name_from n d (ws ++ (f ∷ o ∷ rest)) ≡ Some (n + length ws)
-named_behind n d [] f o name rest h says e =
+-- the first plain name with `(` after it stands after the words that are passed
+pub named_after : (n d : ℕ) (ws : Words) (f o name : List ℕ) (rest : Words) → are_passed d ws ≡ true → symbol_of f ≡ Some name → o ≡ codes "(" → name_from n d (ws ++ (f ∷ o ∷ rest)) ≡ Some (n + length ws)
+named_after n d [] f o name rest h says e =
     let same : d ≡ 0 = eqb-true d 0 h in
     let none : n + 0 ≡ n = omega arith in
     rw (same, e, says, none) refl
-named_behind n d (t ∷ ws) f o name rest h says e =
+named_after n d (t ∷ ws) f o name rest h says e =
     let p : Passed d t ws = passed_is d t ws h in
     let callee : is_callee d t (ws ++ (f ∷ o ∷ rest)) ≡ false = callee_more d t ws (f ∷ o ∷ rest) p.no_callee (apart symbol_of (codes "(") f name no_symbol says) in
     let more : n + suc (length ws) ≡ n + 1 + length ws = omega arith in
-    rw (callee, p.no_close, more) (named_behind (n + 1) (depth_after d t) ws f o name rest p.more says e)
+    rw (callee, p.no_close, more) (named_after (n + 1) (depth_after d t) ws f o name rest p.more says e)
 
 -- a quiet word
 record Quiet (t : List ℕ) : Type 0 where
@@ -201,7 +201,7 @@ quiet_level : (d : ℕ) (qs : Words) → are_passed d qs ≡ true → list_all i
 quiet_level d [] h q = h
 quiet_level d (t ∷ qs) h q = quiet_level d qs (rw (depth_quiet d t (quiet_is t (both (is_quiet t) _ q).0)) at (passed_is d t qs h).more) (both (is_quiet t) _ q).1
 
--- of words that are passed with quiet ones behind them, those in front are
+-- of words that are passed with quiet ones after them, those in front are
 pub passed_front : (d : ℕ) (ws qs : Words) → are_passed d (ws ++ qs) ≡ true → list_all is_quiet qs ≡ true → are_passed d ws ≡ true
 passed_front d [] qs h q = quiet_level d qs h q
 passed_front d (t ∷ ws) qs h q =
@@ -223,7 +223,7 @@ head_reads line before ty n o inner after t name ps passed quiet spelled size sa
     ap (words line) apart ∙ words_append line (before ++ ty) (n ∷ o ∷ inner) ∙ ap (λ (x : Words). x ++ (word line n ∷ word line o ∷ words line inner)) (words_append line before ty) in
     let count : 0 + length front ≡ k = omega (arith, length-append (words line before) (words line ty), length-append before ty, length-map before (word line), length-map ty (word line)) in
     let found : name_from 0 0 (words line all) ≡ Some k =
-    ap (name_from 0 0) all_words ∙ named_behind 0 0 front (word line n) (word line o) name (words line inner) (passed_append 0 (words line before) (words line ty) passed quiet) says opened ∙ ap Some count in
+    ap (name_from 0 0) all_words ∙ named_after 0 0 front (word line n) (word line o) name (words line inner) (passed_append 0 (words line before) (words line ty) passed quiet) says opened ∙ ap Some count in
     let rest : drop k all ≡ n ∷ o ∷ inner = ap (drop k) apart ∙ drop-append_seam (before ++ ty) (n ∷ o ∷ inner) in
     let first : take k all ≡ before ++ ty = ap (take k) apart ∙ take-append_seam (before ++ ty) (n ∷ o ∷ inner) in
     let less : k - ty_len t ≡ length before = omega (arith, length-append before ty, size) in

@@ -25,7 +25,7 @@ use Rattle.rf_text.proofs.HeadWords.{Piece}
 abbrev pub is_quiet : List ℕ → Bool
 is_quiet t = not (bytes_eq t (codes "(")) && (not (bytes_eq t (codes ")")) && not (is_some (symbol_of t)))
 
--- a type's text is cut alike behind a space, a parenthesis, and a comma and a space, into as many words as a type has
+-- a type's text is cut alike after a space, a parenthesis, and a comma and a space, into as many words as a type has
 pub record TyText (t : Ty) : Type 0 where
   pub spaced : Piece (32 ∷ ty_text t)
   pub opened : Piece (40 ∷ ty_text t)

@@ -43,7 +43,7 @@ pub joined_append : (ls ms : List (List ℕ)) → joined (ls ++ ms) ≡ joined l
 joined_append [] ms = refl
 joined_append (l ∷ ls) ms = rw (joined_append ls ms) (sym (append_assoc l (10 ∷ joined ls) (joined ms)))
 
--- lines behind lines
+-- lines after lines
 pub printed_append : {a b : List ℕ} {fs gs : List Line} → Printed a fs → Printed b gs → Printed (a ++ b) (fs ++ gs)
 printed_append {a} {b} {fs} {gs} p q = record {
   lines = p.lines ++ q.lines;

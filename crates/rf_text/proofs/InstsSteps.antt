@@ -8,11 +8,11 @@ use Rattle.ir_types.specs.declared.ty.Elem.{Elem}
 use Rattle.ir_types.specs.declared.ty.Elem.TheVariants.{One, Array}
 use Rattle.ir_types.specs.declared.opd.Opd.{Opd}
 use Rattle.ir_types.specs.declared.op.Op.TheVariants as ops
-use Rattle.ir_types.specs.Typed.{is_width, IsElem, IsStep, HasTwoIndices}
+use Rattle.ir_types.specs.Typed.{is_width, IsElem, IsStep, HasTwoIndices, lane_width}
 use Rattle.ir_lex.specs.Bytes.{is_word_byte, begins_name, is_control}
 use Rattle.ir_lex.specs.Scan.{texts}
 use Rattle.ir_lex.proofs.Again.{stops}
-use Rattle.ir_words.specs.Kinds.{is_integer, bits_of}
+use Rattle.ir_words.specs.Kinds.{is_integer}
 use Rattle.ir_forms.specs.Forms as forms
 use Rattle.ir_forms.specs.Forms.{slots}
 use Rattle.ir_print.specs.declared.names.Local.{Local}
@@ -44,8 +44,8 @@ step_elem : (e : Elem) → IsStep e → IsElem e
 step_elem (One t) h = h.1
 step_elem (Array n w) h = h
 
-step_byte : (e : Elem) (t : Ty) → IsStep e → e ≡ One t → is_integer t && not (nat_eq (bits_of t) 1) ≡ true
-step_byte (One u) t h same = let u_is : u ≡ t = one_ty same in subst (λ (v : Ty). is_integer v && not (nat_eq (bits_of v) 1) ≡ true) u_is (byte_test u h.0 h.1)
+step_byte : (e : Elem) (t : Ty) → IsStep e → e ≡ One t → is_integer t && not (nat_eq (lane_width t) 1) ≡ true
+step_byte (One u) t h same = let u_is : u ≡ t = one_ty same in subst (λ (v : Ty). is_integer v && not (nat_eq (lane_width v) 1) ≡ true) u_is (byte_test u h.0 h.1)
 step_byte (Array n w) t h same = array_no_one same
 
 begins_elem : (e : Elem) (rest : List ℕ) → IsStep e → stops rest ≡ true → BeginsPlain (texts (elem_text e ++ rest))

@@ -95,12 +95,12 @@ module _ (ns : Names) (gs : List (List ℕ)) (shown : Shown ns gs) (ret : Ty) (i
 
   switch_printed : (w other : ℕ) (ls : List (Option ℕ)) (bs : List ℕ) (o : Opd) → is_width w ≡ true → ty ≡ Void → length ls ≡ length bs → All (IsCase w) ls → Operand ns gs (Int w) o → Block ns other → All (Block ns) bs →
       IsReadAgain ns gs (inst id name ty (ops.Switch other ls bs) (o ∷ []))
-  switch_printed w other ls bs o h void many cases is to behind =
+  switch_printed w other ls bs o h void many cases is to after =
       let i : Inst = inst id name ty (ops.Switch other ls bs) (o ∷ []) in
       let first : List ℕ = codes "  switch " ++ (typed_text ns gs o ++ (codes ", " ++ (label_text ns other ++ codes " ["))) in
       let top : Printed (first ++ codes "\n") (StmtLine (stmt_of ns gs i) ∷ []) =
       one_line (forms.Switch (arg (Int w) (written ns gs o)) (shown_block ns other)) first refl (rw (void, is.type) refl) (indented (switch_told w other o h is to)) in
-      let middle : Printed (cases_text ns (switch_width ns (Some o)) ls bs) (cases_of ns (opd_ty ns o) ls bs) = rw is.type (cases_printed ns w ls bs h many cases behind) in
+      let middle : Printed (cases_text ns (switch_width ns (Some o)) ls bs) (cases_of ns (opd_ty ns o) ls bs) = rw is.type (cases_printed ns w ls bs h many cases after) in
       let all : Printed ((first ++ codes "\n") ++ (cases_text ns (switch_width ns (Some o)) ls bs ++ codes "  ]\n")) (forms_of ns gs i) = printed_append top (printed_append middle ended) in
       let whole : inst_text ns gs i ≡ (first ++ codes "\n") ++ (cases_text ns (switch_width ns (Some o)) ls bs ++ codes "  ]\n") =
       rw void (in_lines (typed_text ns gs o) (label_text ns other) (cases_text ns (switch_width ns (Some o)) ls bs)) in

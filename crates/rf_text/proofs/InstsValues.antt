@@ -19,7 +19,7 @@ use Rattle.ir_lex.specs.Bytes.{is_word_byte, begins_name}
 use Rattle.ir_lex.specs.Scan.{texts}
 use Rattle.ir_lex.proofs.Again.{stops}
 use Rattle.ir_lex.proofs.Classes.{clash}
-use Rattle.ir_words.specs.Kinds.{is_integer, is_vector as is_row_ty, is_cast, bits_of, fits}
+use Rattle.ir_words.specs.Kinds.{is_integer, is_vector as is_row_ty, is_cast, fits}
 use Rattle.ir_forms.specs.Pieces.{Comparison}
 use Rattle.ir_forms.specs.Forms as forms
 use Rattle.ir_forms.specs.Forms.{slots, truth_of, cast_kind}
@@ -118,12 +118,6 @@ int_no_row e = cc
 same_lanes : {n v m w : ℕ} → Row m v ≡ Row n w → n ≡ m
 same_lanes e = cc
 
-lane_bits : (t : Ty) → bits_of t ≡ lane_width t
-lane_bits Void = refl
-lane_bits (Int w) = refl
-lane_bits Ptr = refl
-lane_bits (Row n w) = refl
-
 casts : (u t : Ty) → is_number u ≡ true → is_number t ≡ true → t ≡ with_width (lane_width t) u → is_cast u t ≡ true
 casts Void t one two same = clash false refl one
 casts Ptr t one two same = clash false refl one
@@ -141,9 +135,9 @@ less_test m n h = grind (arith, nat_tests)
 
 -- which says that the type is of the kind
 cast_fits : (op : CastOp) (nneg : Bool) (u t : Ty) → is_number u ≡ true → is_number t ≡ true → t ≡ with_width (lane_width t) u → Converts op nneg (lane_width u) (lane_width t) → fits (cast_kind op u) t ≡ true
-cast_fits cast.Zext nneg u t one two same converts = rw (casts u t one two same, lane_bits u, lane_bits t) (less_test (lane_width u) (lane_width t) converts)
-cast_fits cast.Sext nneg u t one two same converts = rw (casts u t one two same, lane_bits u, lane_bits t) (less_test (lane_width u) (lane_width t) converts.0)
-cast_fits cast.Trunc nneg u t one two same converts = rw (casts u t one two same, lane_bits u, lane_bits t) (less_test (lane_width t) (lane_width u) converts.0)
+cast_fits cast.Zext nneg u t one two same converts = rw (casts u t one two same) (less_test (lane_width u) (lane_width t) converts)
+cast_fits cast.Sext nneg u t one two same converts = rw (casts u t one two same) (less_test (lane_width u) (lane_width t) converts.0)
+cast_fits cast.Trunc nneg u t one two same converts = rw (casts u t one two same) (less_test (lane_width t) (lane_width u) converts.0)
 
 -- only `zext` has the flag
 only_zext : (op : CastOp) (nneg : Bool) (from to : ℕ) → Converts op nneg from to → (nneg ≡ false) ⊎ (op ≡ cast.Zext)

@@ -6,10 +6,11 @@ use Rattle.ir_types.specs.declared.ty.Ty.{Ty}
 use Rattle.ir_types.specs.declared.ty.Ty.TheVariants.{Void, Int, Ptr, Row}
 use Rattle.ir_types.specs.declared.opd.Opd.{Opd}
 use Rattle.ir_types.specs.declared.op.Op.TheVariants as ops
-use Rattle.ir_types.specs.Typed.{is_value, is_vector, is_width, with_width, IsEntry}
+use Rattle.ir_types.specs.Typed.{is_value, is_vector, is_width, with_width, IsEntry, lane_width}
 use Rattle.ir_lex.specs.Bytes.{is_word_byte, begins_name}
 use Rattle.ir_lex.proofs.Classes.{clash}
-use Rattle.ir_words.specs.Kinds.{is_same, is_chosen, bits_of}
+use Rattle.ir_types.proofs.SameTypes.{same_itself}
+use Rattle.ir_words.specs.Kinds.{is_chosen}
 use Rattle.ir_forms.specs.Forms as forms
 use Rattle.ir_forms.specs.Forms.{slots}
 use Rattle.ir_print.specs.declared.names.Local.{Local}
@@ -32,16 +33,10 @@ use Rattle.rf_text.proofs.Insts.{value_line, told_result, told_code, operands, w
 pub width_value : (k : ℕ) → is_width k ≡ true → is_value (Int k) ≡ true
 width_value k h = rw h refl
 
-same_ty : (t : Ty) → is_same t t ≡ true
-same_ty Void = refl
-same_ty (Int w) = eq-eqb w w refl
-same_ty Ptr = refl
-same_ty (Row n w) = rw (eq-eqb n n refl) (eq-eqb w w refl)
-
 -- what chooses: a truth value, or one for each lane
 record Chooser (c t : Ty) : Type 0 where
   value : is_value c ≡ true
-  bit : nat_eq (bits_of c) 1 ≡ true
+  bit : nat_eq (lane_width c) 1 ≡ true
   fitting : is_chosen c t ≡ true
 
 chooser : (c t : Ty) → (c ≡ Int 1) ⊎ ((is_vector t ≡ true) × (c ≡ with_width 1 t)) → Chooser c t
@@ -64,7 +59,7 @@ module _ (ns : Names) (gs : List (List ℕ)) (shown : Shown ns gs) (ret : Ty) (i
   three_told x c a b d named by value is js ks =
       rw (append_assoc (typed_text ns gs a) (codes ", " ++ typed_text ns gs b) (codes ", " ++ typed_text ns gs d))
       (told_result x named (told_code _ refl refl (told_space
-      (told_typed ns gs _ c a by.value by.bit is refl (told_also ns gs _ ty b value by.fitting js refl (told_also_last ns gs _ ty d value (same_ty ty) ks))))))
+      (told_typed ns gs _ c a by.value by.bit is refl (told_also ns gs _ ty b value by.fitting js refl (told_also_last ns gs _ ty d value (same_itself ty) ks))))))
 
   pub select_line : (os : List Opd) → Fits ret ns gs (inst id name ty ops.Select os) → IsReadAgain ns gs (inst id name ty ops.Select os)
   select_line os fits =
@@ -129,7 +124,7 @@ module _ (ns : Names) (gs : List (List ℕ)) (shown : Shown ns gs) (ret : Ty) (i
       append_assoc (first ++ second) (codes ", ") (mask_text mask) ∙ append_assoc first second (codes ", " ++ mask_text mask) in
       rw two
       (told_result x named (told_code _ refl refl (told_space
-      (told_typed ns gs _ (Row n w) a row refl is refl (told_also ns gs _ (Row n w) b row (same_ty (Row n w)) js refl (told_last _ _ (mask_cut n w mask (row_is n w row) (row_is (length mask) w result) all)))))))
+      (told_typed ns gs _ (Row n w) a row refl is refl (told_also ns gs _ (Row n w) b row (same_itself (Row n w)) js refl (told_last _ _ (mask_cut n w mask (row_is n w row) (row_is (length mask) w result) all)))))))
 
   pub shuffle_line : (mask : List (Option ℕ)) (os : List Opd) → Fits ret ns gs (inst id name ty (ops.Shuffle mask) os) → IsReadAgain ns gs (inst id name ty (ops.Shuffle mask) os)
   shuffle_line mask os fits =

@@ -62,7 +62,7 @@ module _ (tops : Scope TopMeaning) (scope : Scope LocalMeaning) (base : ℕ) (ns
     pub ends : EndsOnce b.insts
     pub insts : All IsReadInst b.insts
 
-  -- behind an instruction, its name as it was
+  -- after an instruction, its name as it was
   pub record Stepped (n p b : ℕ) (v w : Bool) (i : Inst) (rest : List Thing) : Type 0 where
     pub next : ℕ
     pub name : written_again (result_of v w (shown_text (local_of i.id ns.locals))) ≡ i.name
@@ -86,8 +86,8 @@ module _ (tops : Scope TopMeaning) (scope : Scope LocalMeaning) (base : ℕ) (ns
   unfolding with_statement
   statement_built ln k b i rest id name found = rw (inst_again tops scope base ns gs i (length b.lines) ln k rest id name found) refl
 
-  -- the lines behind an instruction go on from it
-  record Behind (b : BuiltSoFar) (total bs : ℕ) (i : Inst) (ln : ℕ) (rest : List Thing) (more : List Line) (said : Result BuiltSoFar ResolveRefusal) : Type 0 where
+  -- the lines after an instruction go on from it
+  record After (b : BuiltSoFar) (total bs : ℕ) (i : Inst) (ln : ℕ) (rest : List Thing) (more : List Line) (said : Result BuiltSoFar ResolveRefusal) : Type 0 where
     next : ℕ
     place : ℕ
     number : ℕ
@@ -97,7 +97,7 @@ module _ (tops : Scope TopMeaning) (scope : Scope LocalMeaning) (base : ℕ) (ns
     known : Known base scope ns next place bs rest
 
   inst_built : (i : Inst) (fs more : List Line) (ln n p bs total : ℕ) (b : BuiltSoFar) (rest : List Thing) → length b.lines ≡ base + p → p + length (ids_things (insts_things (i ∷ []) rest)) ≡ total → Known base scope ns n p bs (insts_things (i ∷ []) rest) → IsReadInst i →
-      Behind b total bs i ln rest (fs ++ more) (built_from b (numbered_from ln ((forms_of ns gs i ++ fs) ++ more)))
+      After b total bs i ln rest (fs ++ more) (built_from b (numbered_from ln ((forms_of ns gs i ++ fs) ++ more)))
   inst_built i fs more ln n p bs total b rest many count known is =
       let step : Stepped n p bs (is_void i.ty) (is_store i.op) i rest = stepped n p bs (is_void i.ty) (is_store i.op) i rest is.silent known in
       let id : i.id ≡ record { region = 0; k = length b.lines } = step.id ∙ ap (λ (k : ℕ). record { region = 0; k = k }) (sym many) in
@@ -124,7 +124,7 @@ module _ (tops : Scope TopMeaning) (scope : Scope LocalMeaning) (base : ℕ) (ns
   unfolding with_inst
   leaving ln b i goes = rw goes refl
 
-  -- what was said is what the lines behind say
+  -- what was said is what the lines after say
   record Passed (total bs : ℕ) (rest : List Thing) (blocks : List Block) (more : List Line) (said : Result BuiltSoFar ResolveRefusal) : Type 0 where
     next : ℕ
     place : ℕ
@@ -146,7 +146,7 @@ module _ (tops : Scope TopMeaning) (scope : Scope LocalMeaning) (base : ℕ) (ns
   insts_built : (i : Inst) (is : List Inst) (more : List Line) (ln n p bs total : ℕ) (b : BuiltSoFar) (rest : List Thing) → ends_from i is ≡ true → length b.lines ≡ base + p → p + length (ids_things (insts_things (i ∷ is) rest)) ≡ total →
       Known base scope ns n p bs (insts_things (i ∷ is) rest) → All IsReadInst (i ∷ is) → Passed total bs rest (b.blocks ++ block_with b.current (i ∷ is) ∷ []) more (built_from b (numbered_from ln (insts_forms ns gs (i ∷ is) ++ more)))
   insts_built i [] more ln n p bs total b rest ends many count known all =
-      let first : Behind b total bs i ln rest more (built_from b (numbered_from ln ((forms_of ns gs i ++ []) ++ more))) = inst_built i [] more ln n p bs total b rest many count known (All-head IsReadInst i [] all) in
+      let first : After b total bs i ln rest more (built_from b (numbered_from ln ((forms_of ns gs i ++ []) ++ more))) = inst_built i [] more ln n p bs total b rest many count known (All-head IsReadInst i [] all) in
       record {
         next = first.next;
         place = first.place;
@@ -159,7 +159,7 @@ module _ (tops : Scope TopMeaning) (scope : Scope LocalMeaning) (base : ℕ) (ns
       }
   insts_built i (j ∷ is) more ln n p bs total b rest ends many count known all =
       let parts : (not (is_terminator i.op) ≡ true) × (ends_from j is ≡ true) = both (not (is_terminator i.op)) (ends_from j is) ends in
-      let first : Behind b total bs i ln (insts_things (j ∷ is) rest) (insts_forms ns gs (j ∷ is) ++ more) (built_from b (numbered_from ln ((forms_of ns gs i ++ insts_forms ns gs (j ∷ is)) ++ more))) =
+      let first : After b total bs i ln (insts_things (j ∷ is) rest) (insts_forms ns gs (j ∷ is) ++ more) (built_from b (numbered_from ln ((forms_of ns gs i ++ insts_forms ns gs (j ∷ is)) ++ more))) =
       inst_built i (insts_forms ns gs (j ∷ is)) more ln n p bs total b (insts_things (j ∷ is) rest) many count known (All-head IsReadInst i (j ∷ is) all) in
       let c : BuiltSoFar = built_with b.blocks (Some (with_last (open_block b.current) i)) (b.lines ++ ln ∷ []) in
       let next : Passed total bs rest (b.blocks ++ block_with (Some (with_last (open_block b.current) i)) (j ∷ is) ∷ []) more (built_from c (numbered_from first.number (insts_forms ns gs (j ∷ is) ++ more))) =
@@ -206,7 +206,7 @@ module _ (tops : Scope TopMeaning) (scope : Scope LocalMeaning) (base : ℕ) (ns
   unfolding labelled
   label_built blocks lines name = refl
 
-  -- a block behind its label
+  -- a block after its label
   labelled_built : (block : Block) (more : List Line) (ln n p bs total : ℕ) (blocks : List Block) (lines : List ℕ) (rest : List Thing) (name : List ℕ) → written_name name ≡ block.name → IsReadBlock block → length lines ≡ base + p →
       p + length (ids_things (insts_things block.insts rest)) ≡ total → Known base scope ns n p bs (insts_things block.insts rest) →
       Passed total bs rest (blocks ++ block ∷ []) more (built_from (built_with blocks None lines) (numbered_from ln (line.Label name ∷ (insts_forms ns gs block.insts ++ more))))
@@ -220,7 +220,7 @@ module _ (tops : Scope TopMeaning) (scope : Scope LocalMeaning) (base : ℕ) (ns
     pub said_is : said ≡ Ok (built_with blocks None lines)
     pub counted : length lines ≡ base + total
 
-  -- blocks behind the first
+  -- blocks after the first
   blocks_built : (bs : List Block) (ln n p b total : ℕ) (blocks : List Block) (lines : List ℕ) → length lines ≡ base + p → p + length (ids_things (blocks_things bs)) ≡ total → Known base scope ns n p b (blocks_things bs) → All IsReadBlock bs →
       Built total (blocks ++ bs) (built_from (built_with blocks None lines) (numbered_from ln (more_blocks_forms ns gs b bs)))
   blocks_built [] ln n p b total blocks lines many count known all = record { lines = lines; said_is = ap (λ (x : List Block). Ok (built_with x None lines)) (sym (append-nil blocks)); counted = omega (arith, many, count) }

@@ -50,8 +50,8 @@ value_shown : (id : Id) (n : ℕ) (ts : List Thing) (before : Option Local) → 
 value_shown id n [] before h = cc
 value_shown id n (Gives key ty name ∷ ts) before h = go (same_id key id) h (λ h. value_shown id (counted n name) ts before h) where
   go : (t : Bool) → t || has_value id ts ≡ true → (has_value id ts ≡ true → (l : Local) × (last_of id (locals_from (counted n name) (named_things ts)) before ≡ Some l)) → (l : Local) × (last_of id (locals_from (counted n name) (named_things ts)) (if t then Some (record { id = key; ty = ty; text = shown n name }) else before) ≡ Some l)
-  go true h behind = kept id (locals_from (counted n name) (named_things ts)) (record { id = key; ty = ty; text = shown n name })
-  go false h behind = behind h
+  go true h after = kept id (locals_from (counted n name) (named_things ts)) (record { id = key; ty = ty; text = shown n name })
+  go false h after = after h
 value_shown id n (Silent key ∷ ts) before h = value_shown id n ts before h
 value_shown id n (Begins name ∷ ts) before h = value_shown id (counted n name) ts before h
 
@@ -80,8 +80,8 @@ insts_give : (id : Id) (is : List Inst) (other : Option Ty) (rest : List Thing) 
 insts_give id [] other rest next h = next h
 insts_give id (i ∷ is) other rest next h = go (same_id i.id id) refl h (λ h. insts_give id is other rest next h) where
   go : (t : Bool) → same_id i.id id ≡ t → IsReal (or_else (if t then Some (given_ty i.op i.ty) else ty_in_insts id is) other) → (IsReal (or_else (ty_in_insts id is) other) → has_value id (insts_things is rest) ≡ true) → has_value id (insts_things (i ∷ is) rest) ≡ true
-  go true same h behind = let value : (is_void i.ty ≡ false) × (is_store i.op ≡ false) = given_real (is_void i.ty) i refl h in inst_gives id (is_void i.ty) (is_store i.op) i (insts_things is rest) value.0 value.1 same
-  go false same h behind = inst_passes id (is_void i.ty) (is_store i.op) i (insts_things is rest) (behind h)
+  go true same h after = let value : (is_void i.ty ≡ false) × (is_store i.op ≡ false) = given_real (is_void i.ty) i refl h in inst_gives id (is_void i.ty) (is_store i.op) i (insts_things is rest) value.0 value.1 same
+  go false same h after = inst_passes id (is_void i.ty) (is_store i.op) i (insts_things is rest) (after h)
 
 blocks_give : (id : Id) (bs : List Block) → IsReal (ty_in_blocks id bs) → has_value id (blocks_things bs) ≡ true
 blocks_give id [] h = absurd h
@@ -107,9 +107,9 @@ insts_label : (n : ℕ) (is : List Inst) (rest : List Thing) (k : ℕ) → ((n :
 insts_label n [] rest k same = same n
 insts_label n (i ∷ is) rest k same = go (is_void i.ty) (is_store i.op) (λ n. insts_label n is rest k same) where
   go : (v w : Bool) → ((n : ℕ) → length (labels_from n (named_things (insts_things is rest))) ≡ k) → length (labels_from n (named_things (inst_thing v w i ∷ insts_things is rest))) ≡ k
-  go false false behind = behind (counted n i.name)
-  go false true behind = behind n
-  go true w behind = behind n
+  go false false after = after (counted n i.name)
+  go false true after = after n
+  go true w after = after n
 
 blocks_label : (n : ℕ) (bs : List Block) → length (labels_from n (named_things (blocks_things bs))) ≡ length bs
 blocks_label n [] = refl

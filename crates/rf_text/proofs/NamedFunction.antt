@@ -99,12 +99,12 @@ module _ (base : ℕ) (scope : Scope LocalMeaning) (ns : Names) where
   params_again : (n p b k at : ℕ) (ps : List Param) (rest : List Thing) → k ≡ base + p → Known base scope ns n p b (params_things ps rest) → params_from k (shown_params ns at ps) ≡ ps
   params_again n p b k at [] rest e known = refl
   params_again n p b k at (prm ∷ ps) rest e known =
-      let behind : params_from (k + 1) (shown_params ns (at + 1) ps) ≡ ps = params_again (counted n prm.name) (p + 1) b (k + 1) (at + 1) ps rest (omega (arith, e)) known.1 in
+      let past : params_from (k + 1) (shown_params ns (at + 1) ps) ≡ ps = params_again (counted n prm.name) (p + 1) b (k + 1) (at + 1) ps rest (omega (arith, e)) known.1 in
       let id : record { region = 0; k = k } ≡ prm.id = ap (λ (x : ℕ). record { region = 0; k = x }) e ∙ sym known.0.placed in
       let name : written_again (shown_name (local_of prm.id ns.locals)) ≡ prm.name = ap (λ (l : Option Local). written_again (shown_name l)) known.0.shows ∙ known.0.once_more.name_again in
       ap (λ (x : Id). record { id = x; name = written_again (shown_name (local_of prm.id ns.locals)); ty = prm.ty; attrs = prm.attrs; noalias = prm.noalias } ∷ params_from (k + 1) (shown_params ns (at + 1) ps)) id
       ∙ ap (λ (x : Option (List ℕ)). record { id = prm.id; name = x; ty = prm.ty; attrs = prm.attrs; noalias = prm.noalias } ∷ params_from (k + 1) (shown_params ns (at + 1) ps)) name
-      ∙ ap (λ (xs : List Param). prm ∷ xs) behind
+      ∙ ap (λ (xs : List Param). prm ∷ xs) past
 
 -- ---- the function
 
@@ -152,10 +152,10 @@ body_again : (tops : Scope TopMeaning) (m : Module) (f : Func) (lines : List ℕ
 unfolding built_of
 body_again tops m f lines ln globals formed plain is =
     let blocks : All (IsReadBlock tops (scope_of f) (length lines) (names_of f) m.globals) f.blocks = blocks_are_read m f tops (scope_of f) (length lines) globals is.known formed plain in
-    let behind : (k : ℕ) × Known (length lines) (scope_of f) (names_of f) k (length f.params) 0 (blocks_things f.blocks) = params_known (length lines) (scope_of f) (names_of f) 0 0 0 (length f.params) f.params (blocks_things f.blocks) (omega arith) is.known in
+    let past : (k : ℕ) × Known (length lines) (scope_of f) (names_of f) k (length f.params) 0 (blocks_things f.blocks) = params_known (length lines) (scope_of f) (names_of f) 0 0 0 (length f.params) f.params (blocks_things f.blocks) (omega arith) is.known in
     let many : length f.params + length (ids_things (blocks_things f.blocks)) ≡ length (item_ids (FuncItem f)) = sym (params_many f.params (blocks_things f.blocks)) ∙ ap length (things_ids f) in
-    body_built tops (scope_of f) (length lines) (names_of f) m.globals f.blocks (ln + 1) behind.0 (length f.params) (length (item_ids (FuncItem f))) (param_lines ln lines (shown_params (names_of f) 0 f.params))
-    (params_counted (names_of f) ln 0 lines f.params) many behind.1 blocks
+    body_built tops (scope_of f) (length lines) (names_of f) m.globals f.blocks (ln + 1) past.0 (length f.params) (length (item_ids (FuncItem f))) (param_lines ln lines (shown_params (names_of f) 0 f.params))
+    (params_counted (names_of f) ln 0 lines f.params) many past.1 blocks
 
 pub function_again : (tops : Scope TopMeaning) (m : Module) (f : Func) (done : DoneSoFar) (ln : ℕ) → HasGlobals m.globals tops → IsFormedFunc m f → IsPlainFunc f → Stands f (length done.lines) →
     Resolves f done (resolved_function tops ln done (shown_head (names_of f) f) (numbered_from (ln + 1) (body_forms m.globals f)))

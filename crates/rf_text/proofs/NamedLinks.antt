@@ -31,7 +31,7 @@ HasShape (Switch other cases to) os = length cases ≡ length to
 HasShape (Call site) os = ⊥
 HasShape op os = Unit {0}
 
--- the blocks behind the first line
+-- the blocks after the first line
 abbrev pub case_blocks : Op → List ℕ
 case_blocks (Switch other cases to) = to
 case_blocks op = []

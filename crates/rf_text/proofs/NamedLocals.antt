@@ -22,7 +22,7 @@ use Rattle.ir_read.specs.Bodies.{numbered_from}
 use Rattle.ir_types_check.specs.declared.refusal.ResolveRefusal.{ResolveRefusal}
 use Rattle.ir_types_check.specs.Answers.{◌>>=◌}
 use Rattle.ir_types_check.specs.Scope.{Scope, of_function}
-use Rattle.ir_types_check.specs.Outline.{opened, behind_param, behind_label, behind_inst}
+use Rattle.ir_types_check.specs.Outline.{opened, past_param, after_label, after_inst}
 use Rattle.ir_types_check.specs.Locals.{with_name, with_param, with_params, with_label, with_opened, with_stmt, with_lines, locals_of}
 use Rattle.ir_types_check.proofs.Handed.{LocalMeaning, value_at, block_at, LinePlace, LocalNames}
 use Rattle.rf_text.specs.Headed.{shown_param, shown_params, shown_head}
@@ -71,11 +71,11 @@ module _ (base : ℕ) (scope : Scope LocalMeaning) (once : Once scope) where
 
     param_read : (ln at n p b : ℕ) (o : Bool) (done rest : Scope LocalMeaning) (prm : Param) → IsValue base scope ns n p prm.id prm.ty prm.name → scope ≡ done ++ (shown n prm.name, value_at p prm.ty) ∷ rest →
         with_param ln (locals done n p b o) (shown_param ns at prm) ≡ Ok (locals (done ++ (shown n prm.name, value_at p prm.ty) ∷ []) (counted n prm.name) (p + 1) b o)
-    unfolding with_param behind_param
+    unfolding with_param past_param
     param_read ln at n p b o done rest prm is whole =
         rw (is.shows, is.once_more.next_again, name_defined ln (locals done n p b o) (shown n prm.name) (value_at p prm.ty) _ rest whole) refl
 
-    -- what was said is what is said behind these things
+    -- what was said is what is said after these things
     pub record Reached (rest : List Thing) (b : ℕ) (o : Bool) (said : Result LocalNames ResolveRefusal) : Type 0 where
       pub done : Scope LocalMeaning
       pub next : ℕ
@@ -88,22 +88,22 @@ module _ (base : ℕ) (scope : Scope LocalMeaning) (once : Once scope) where
         Reached rest b o (with_params ln (locals done n p b o) (shown_params ns at ps))
     params_read ln at n p b o done [] rest whole known = record { done = done; next = n; place = p; said_is = refl; whole = whole; known = known }
     params_read ln at n p b o done (prm ∷ ps) rest whole known =
-        let behind : Scope LocalMeaning = scope_from (counted n prm.name) (p + 1) b (params_things ps rest) in
-        rw (param_read ln at n p b o done behind prm known.0 whole)
-        (params_read ln (at + 1) (counted n prm.name) (p + 1) b o (done ++ (shown n prm.name, value_at p prm.ty) ∷ []) ps rest (moved scope done (shown n prm.name, value_at p prm.ty) behind whole) known.1)
+        let past : Scope LocalMeaning = scope_from (counted n prm.name) (p + 1) b (params_things ps rest) in
+        rw (param_read ln at n p b o done past prm known.0 whole)
+        (params_read ln (at + 1) (counted n prm.name) (p + 1) b o (done ++ (shown n prm.name, value_at p prm.ty) ∷ []) ps rest (moved scope done (shown n prm.name, value_at p prm.ty) past whole) known.1)
 
     -- ---- instructions
 
     stmt_named : (ln n p b : ℕ) (done rest : Scope LocalMeaning) (s : Stmt) (name : Option (List ℕ)) → s.result ≡ Some (shown n name) → Again n name → scope ≡ done ++ (shown n name, value_at p s.ty) ∷ rest →
         with_stmt ln (locals done n p b true) s ≡ Ok (locals (done ++ (shown n name, value_at p s.ty) ∷ []) (counted n name) (p + 1) b (not (is_terminator s.op)))
-    unfolding with_stmt with_opened behind_inst
+    unfolding with_stmt with_opened after_inst
     stmt_named ln n p b done rest s name e again whole = rw (e, again.next_again, name_defined ln (locals done n p b true) (shown n name) (value_at p s.ty) _ rest whole) refl
 
     stmt_silent : (ln n p b : ℕ) (done : Scope LocalMeaning) (s : Stmt) → s.result ≡ None → with_stmt ln (locals done n p b true) s ≡ Ok (locals done n (p + 1) b (not (is_terminator s.op)))
-    unfolding with_stmt with_opened behind_inst
+    unfolding with_stmt with_opened after_inst
     stmt_silent ln n p b done s e = rw e refl
 
-    -- behind an instruction that stands in an open block
+    -- after an instruction that stands in an open block
     pub record Stepped (rest : List Thing) (p b : ℕ) (s : Stmt) (said : Result LocalNames ResolveRefusal) : Type 0 where
       pub done : Scope LocalMeaning
       pub next : ℕ
@@ -115,19 +115,19 @@ module _ (base : ℕ) (scope : Scope LocalMeaning) (once : Once scope) where
         scope ≡ done ++ scope_from n p b (inst_thing v w i ∷ rest) → Known base scope ns n p b (inst_thing v w i ∷ rest) → Stepped rest p b s (with_stmt ln (locals done n p b true) s)
     inst_read false false i s e t ln n p b done rest whole known =
         let result : s.result ≡ Some (shown n i.name) = e ∙ ap (λ (l : Option Local). Some (shown_text l)) known.0.shows in
-        let behind : Scope LocalMeaning = scope_from (counted n i.name) (p + 1) b rest in
-        let here : scope ≡ done ++ (shown n i.name, value_at p s.ty) ∷ behind = rw t whole in
+        let past : Scope LocalMeaning = scope_from (counted n i.name) (p + 1) b rest in
+        let here : scope ≡ done ++ (shown n i.name, value_at p s.ty) ∷ past = rw t whole in
         record {
           done = done ++ (shown n i.name, value_at p s.ty) ∷ [];
           next = counted n i.name;
-          said_is = stmt_named ln n p b done behind s i.name result known.0.once_more here;
-          whole = moved scope done (shown n i.name, value_at p s.ty) behind here;
+          said_is = stmt_named ln n p b done past s i.name result known.0.once_more here;
+          whole = moved scope done (shown n i.name, value_at p s.ty) past here;
           known = known.1;
         }
     inst_read false true i s e t ln n p b done rest whole known = record { done = done; next = n; said_is = stmt_silent ln n p b done s e; whole = whole; known = known.1 }
     inst_read true w i s e t ln n p b done rest whole known = record { done = done; next = n; said_is = stmt_silent ln n p b done s e; whole = whole; known = known.1 }
 
-    -- what was said is what the lines behind say
+    -- what was said is what the lines after say
     pub record Passed (rest : List Thing) (b : ℕ) (more : List Line) (said : Result LocalNames ResolveRefusal) : Type 0 where
       pub done : Scope LocalMeaning
       pub next : ℕ
@@ -138,8 +138,8 @@ module _ (base : ℕ) (scope : Scope LocalMeaning) (once : Once scope) where
       pub whole : scope ≡ done ++ scope_from next place b rest
       pub known : Known base scope ns next place b rest
 
-    -- the same behind an instruction, which closes its block or not
-    record Behind (rest : List Thing) (b : ℕ) (o : Bool) (more : List Line) (said : Result LocalNames ResolveRefusal) : Type 0 where
+    -- the same after an instruction, which closes its block or not
+    record After (rest : List Thing) (b : ℕ) (o : Bool) (more : List Line) (said : Result LocalNames ResolveRefusal) : Type 0 where
       done : Scope LocalMeaning
       next : ℕ
       place : ℕ
@@ -148,8 +148,8 @@ module _ (base : ℕ) (scope : Scope LocalMeaning) (once : Once scope) where
       whole : scope ≡ done ++ scope_from next place b rest
       known : Known base scope ns next place b rest
 
-    -- what stands behind the lines behind an instruction
-    joined : (rest last : List Thing) (b : ℕ) (o : Bool) (more end : List Line) (said : Result LocalNames ResolveRefusal) (first : Behind rest b o more said) → o ≡ true →
+    -- what stands after the lines after an instruction
+    joined : (rest last : List Thing) (b : ℕ) (o : Bool) (more end : List Line) (said : Result LocalNames ResolveRefusal) (first : After rest b o more said) → o ≡ true →
         Passed last b end (with_lines (locals first.done first.next first.place b true) (numbered_from first.number more)) → Passed last b end said
     joined rest last b o more end said first opens next = record {
       done = next.done;
@@ -165,7 +165,7 @@ module _ (base : ℕ) (scope : Scope LocalMeaning) (once : Once scope) where
     module _ (gs : List (List ℕ)) where
       -- an instruction and the lines of its cases
       inst_passed : (i : Inst) (fs more : List Line) (ln n p b : ℕ) (done : Scope LocalMeaning) (rest : List Thing) → scope ≡ done ++ scope_from n p b (insts_things (i ∷ []) rest) → Known base scope ns n p b (insts_things (i ∷ []) rest) →
-          Behind rest b (not (is_terminator i.op)) (fs ++ more) (with_lines (locals done n p b true) (numbered_from ln ((forms_of ns gs i ++ fs) ++ more)))
+          After rest b (not (is_terminator i.op)) (fs ++ more) (with_lines (locals done n p b true) (numbered_from ln ((forms_of ns gs i ++ fs) ++ more)))
       inst_passed i fs more ln n p b done rest whole known =
           let step : Stepped rest p b (stmt_of ns gs i) (with_stmt ln (locals done n p b true) (stmt_of ns gs i)) = inst_read (is_void i.ty) (is_store i.op) i (stmt_of ns gs i) refl refl ln n p b done rest whole known in
           let after : LocalNames = locals step.done step.next (p + 1) b (not (is_terminator (op_of i.op))) in
@@ -188,11 +188,11 @@ module _ (base : ℕ) (scope : Scope LocalMeaning) (once : Once scope) where
       insts_read : (i : Inst) (is : List Inst) (more : List Line) (ln n p b : ℕ) (done : Scope LocalMeaning) (rest : List Thing) → ends_from i is ≡ true → scope ≡ done ++ scope_from n p b (insts_things (i ∷ is) rest) →
           Known base scope ns n p b (insts_things (i ∷ is) rest) → Passed rest b more (with_lines (locals done n p b true) (numbered_from ln (insts_forms ns gs (i ∷ is) ++ more)))
       insts_read i [] more ln n p b done rest ends whole known =
-          let is : Behind rest b (not (is_terminator i.op)) more (with_lines (locals done n p b true) (numbered_from ln ((forms_of ns gs i ++ []) ++ more))) = inst_passed i [] more ln n p b done rest whole known in
+          let is : After rest b (not (is_terminator i.op)) more (with_lines (locals done n p b true) (numbered_from ln ((forms_of ns gs i ++ []) ++ more))) = inst_passed i [] more ln n p b done rest whole known in
           record { done = is.done; next = is.next; place = is.place; number = is.number; is_open = not (is_terminator i.op); said_is = is.said_is; whole = is.whole; known = is.known }
       insts_read i (j ∷ is) more ln n p b done rest ends whole known =
           let parts : (not (is_terminator i.op) ≡ true) × (ends_from j is ≡ true) = both (not (is_terminator i.op)) (ends_from j is) ends in
-          let first : Behind (insts_things (j ∷ is) rest) b (not (is_terminator i.op)) (insts_forms ns gs (j ∷ is) ++ more) (with_lines (locals done n p b true) (numbered_from ln ((forms_of ns gs i ++ insts_forms ns gs (j ∷ is)) ++ more))) =
+          let first : After (insts_things (j ∷ is) rest) b (not (is_terminator i.op)) (insts_forms ns gs (j ∷ is) ++ more) (with_lines (locals done n p b true) (numbered_from ln ((forms_of ns gs i ++ insts_forms ns gs (j ∷ is)) ++ more))) =
           inst_passed i (insts_forms ns gs (j ∷ is)) more ln n p b done (insts_things (j ∷ is) rest) whole known in
           joined (insts_things (j ∷ is) rest) rest b (not (is_terminator i.op)) (insts_forms ns gs (j ∷ is) ++ more) more _ first parts.0
           (insts_read j is more first.number first.next first.place b first.done rest parts.1 first.whole first.known)
@@ -207,10 +207,10 @@ module _ (base : ℕ) (scope : Scope LocalMeaning) (once : Once scope) where
 
       pub label_read : (ln n p b : ℕ) (o : Bool) (done rest : Scope LocalMeaning) (name : Option (List ℕ)) → Again n name → scope ≡ done ++ (shown n name, block_at b) ∷ rest →
           with_label ln (locals done n p b o) (shown n name) ≡ Ok (locals (done ++ (shown n name, block_at b) ∷ []) (counted n name) p (b + 1) true)
-      unfolding with_label behind_label
+      unfolding with_label after_label
       label_read ln n p b o done rest name again whole = rw (again.next_again, name_defined ln (locals done n p b o) (shown n name) (block_at b) _ rest whole) refl
 
-      -- a block behind its label
+      -- a block after its label
       labelled : (ln n p b : ℕ) (o : Bool) (done : Scope LocalMeaning) (block : Block) (rest : List Thing) (more : List Line) (name : List ℕ) → name ≡ shown n block.name → EndsOnce block.insts →
           scope ≡ done ++ scope_from n p b (Begins block.name ∷ insts_things block.insts rest) → Known base scope ns n p b (Begins block.name ∷ insts_things block.insts rest) →
           Passed rest (b + 1) more (with_lines (locals done n p b o) (numbered_from ln (line.Label name ∷ (insts_forms ns gs block.insts ++ more))))
@@ -219,9 +219,9 @@ module _ (base : ℕ) (scope : Scope LocalMeaning) (once : Once scope) where
             Passed rest (b + 1) more (with_lines (locals done n p b o) (numbered_from ln (line.Label name ∷ (insts_forms ns gs insts ++ more))))
         go [] ends whole known = absurd ends
         go (i ∷ js) ends whole known =
-            let behind : Scope LocalMeaning = scope_from (counted n block.name) p (b + 1) (insts_things (i ∷ js) rest) in
-            rw (is, label_read ln n p b o done behind block.name known.0.once_more whole)
-            (insts_read i js more (ln + 1) (counted n block.name) p (b + 1) (done ++ (shown n block.name, block_at b) ∷ []) rest ends (moved scope done (shown n block.name, block_at b) behind whole) known.1)
+            let past : Scope LocalMeaning = scope_from (counted n block.name) p (b + 1) (insts_things (i ∷ js) rest) in
+            rw (is, label_read ln n p b o done past block.name known.0.once_more whole)
+            (insts_read i js more (ln + 1) (counted n block.name) p (b + 1) (done ++ (shown n block.name, block_at b) ∷ []) rest ends (moved scope done (shown n block.name, block_at b) past whole) known.1)
 
       -- an unnamed first block, which its first instruction begins
       opened_read : (ln n p b : ℕ) (done rest : Scope LocalMeaning) (s : Stmt) → scope ≡ done ++ (decimal n, block_at b) ∷ rest → with_stmt ln (locals done n p b false) s ≡ with_stmt ln (locals (done ++ (decimal n, block_at b) ∷ []) (n + 1) p (b + 1) true) s
@@ -232,11 +232,11 @@ module _ (base : ℕ) (scope : Scope LocalMeaning) (once : Once scope) where
           Known base scope ns n p b (Begins None ∷ insts_things insts rest) → Passed rest (b + 1) more (with_lines (locals done n p b false) (numbered_from ln (insts_forms ns gs insts ++ more)))
       unlabelled ln n p b done [] rest more ends whole known = absurd ends
       unlabelled ln n p b done (i ∷ js) rest more ends whole known =
-          let behind : Scope LocalMeaning = scope_from (n + 1) p (b + 1) (insts_things (i ∷ js) rest) in
-          rw (opened_read ln n p b done behind (stmt_of ns gs i) whole)
-          (insts_read i js more ln (n + 1) p (b + 1) (done ++ (decimal n, block_at b) ∷ []) rest ends (moved scope done (decimal n, block_at b) behind whole) known.1)
+          let past : Scope LocalMeaning = scope_from (n + 1) p (b + 1) (insts_things (i ∷ js) rest) in
+          rw (opened_read ln n p b done past (stmt_of ns gs i) whole)
+          (insts_read i js more ln (n + 1) p (b + 1) (done ++ (decimal n, block_at b) ∷ []) rest ends (moved scope done (decimal n, block_at b) past whole) known.1)
 
-      -- blocks behind the first
+      -- blocks after the first
       blocks_read : (bs : List Block) (ln n p b : ℕ) (o : Bool) (done : Scope LocalMeaning) → All (λ (b : Block). EndsOnce b.insts) bs → scope ≡ done ++ scope_from n p b (blocks_things bs) → Known base scope ns n p b (blocks_things bs) →
           Ended (with_lines (locals done n p b o) (numbered_from ln (more_blocks_forms ns gs b bs)))
       blocks_read [] ln n p b o done ends whole known = record { end = locals done n p b o; said_is = refl; whole = sym (append-nil done) ∙ sym whole }

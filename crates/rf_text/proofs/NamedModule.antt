@@ -14,12 +14,12 @@ use Rattle.rf_text.proofs.NamedFunction.{Stands, stands}
 
 -- ---- the functions of a module
 
--- ids behind others
-ids_behind : (ids rest : List Id) (k q count : ℕ) → q ≡ k + length ids → ids ++ rest ≡ ids_from k count → (j : ℕ) × (rest ≡ ids_from q j)
-ids_behind [] rest k q count at e = let same : k ≡ q = omega (arith, at) in (count, rw (← same) e)
-ids_behind (id ∷ ids) rest k q count at e =
+-- ids after others
+ids_after : (ids rest : List Id) (k q count : ℕ) → q ≡ k + length ids → ids ++ rest ≡ ids_from k count → (j : ℕ) × (rest ≡ ids_from q j)
+ids_after [] rest k q count at e = let same : k ≡ q = omega (arith, at) in (count, rw (← same) e)
+ids_after (id ∷ ids) rest k q count at e =
     let parts : (j : ℕ) × (id ≡ record { region = 0; k = k }) × (ids ++ rest ≡ ids_from (k + 1) j) = ids_split id (ids ++ rest) k count e in
-    ids_behind ids rest (k + 1) q parts.0 (omega (arith, at)) parts.2
+    ids_after ids rest (k + 1) q parts.0 (omega (arith, at)) parts.2
 
 -- each function is formed and plain, and stands where its ids say
 abbrev pub AllStand : Module → ℕ → List Item → Type 0
@@ -36,9 +36,9 @@ all_stand m (Opaque text ∷ items) base count formed plain few ids =
     all_stand m items base count (All-tail (IsFormedItem m) (Opaque text) items formed) (All-tail IsPlainItem (Opaque text) items plain) (All-tail IsCountedItem (Opaque text) items few) ids
 all_stand m (FuncItem f ∷ items) base count formed plain few ids =
     let is : IsPlainFunc f = All-head IsPlainItem (FuncItem f) items plain in
-    let behind : (j : ℕ) × (ids_of_items items ≡ ids_from (base + length (item_ids (FuncItem f))) j) = ids_behind (item_ids (FuncItem f)) (ids_of_items items) base (base + length (item_ids (FuncItem f))) count refl ids in (
+    let after : (j : ℕ) × (ids_of_items items ≡ ids_from (base + length (item_ids (FuncItem f))) j) = ids_after (item_ids (FuncItem f)) (ids_of_items items) base (base + length (item_ids (FuncItem f))) count refl ids in (
       All-head (IsFormedItem m) (FuncItem f) items formed,
       is,
       stands f base (ids_of_items items) count is (All-head IsCountedItem (FuncItem f) items few) ids,
-      all_stand m items (base + length (item_ids (FuncItem f))) behind.0 (All-tail (IsFormedItem m) (FuncItem f) items formed) (All-tail IsPlainItem (FuncItem f) items plain) (All-tail IsCountedItem (FuncItem f) items few) behind.1,
+      all_stand m items (base + length (item_ids (FuncItem f))) after.0 (All-tail (IsFormedItem m) (FuncItem f) items formed) (All-tail IsPlainItem (FuncItem f) items plain) (All-tail IsCountedItem (FuncItem f) items few) after.1,
     )

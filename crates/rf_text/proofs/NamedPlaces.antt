@@ -64,7 +64,7 @@ same_ids a b h =
 ids_apart : (base p j : ℕ) → j < p → same_id (id_at base p) (id_at base j) ≡ false
 ids_apart base p j less = grind (arith, nat_tests)
 
--- no value behind has the id of an earlier place
+-- no value after has the id of an earlier place
 pub later : (base n p j : ℕ) (ts : List Thing) → j < p → Placed base p ts → (before : Option Local) → last_of (id_at base j) (locals_from n (named_things ts)) before ≡ before
 later base n p j [] less placed before = refl
 later base n p j (Gives id ty name ∷ ts) less placed before =
@@ -127,7 +127,7 @@ module _ (base : ℕ) (scope : Scope LocalMeaning) (ns : Names) where
   meant : (done : Scope LocalMeaning) (name : List ℕ) (m : LocalMeaning) (rest : Scope LocalMeaning) → scope ≡ done ++ (name, m) ∷ rest → Once scope → meaning name scope ≡ Some m
   meant done name m rest whole once = rw whole (found done name m rest (rw whole at once))
 
-  -- what stands behind others is known
+  -- what stands after others is known
   pub known_from : (n p b : ℕ) (ts : List Thing) (done : Scope LocalMeaning) (ls : List Local) (bs : List (List ℕ)) → scope ≡ done ++ scope_from n p b ts → ns.locals ≡ ls ++ locals_from n (named_things ts) →
       ns.labels ≡ bs ++ labels_from n (named_things ts) → length bs ≡ b → n + length (named_things ts) ≤ 2 ^ 64 → All IsPlainThing ts → Placed base p ts → Once scope → Known n p b ts
   known_from n p b [] done ls bs whole locals labels many small plain placed once = tt

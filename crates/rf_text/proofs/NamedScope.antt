@@ -42,6 +42,6 @@ module _ {M : Type 0} where
   found [] name m rest once = rw (bytes_same name) refl
   found (e ∷ done) name m rest once = rw (either_order e.0 name (another e.0 name m done rest once.0)) (found done name m rest once.1)
 
-  -- one more of the names is behind
+  -- one more of the names is after
   pub moved : (all done : Scope M) (e : List ℕ × M) (rest : Scope M) → all ≡ done ++ e ∷ rest → all ≡ (done ++ e ∷ []) ++ rest
   moved all done e rest whole = whole ∙ sym (append_assoc done (e ∷ []) rest)

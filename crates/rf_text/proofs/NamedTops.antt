@@ -80,7 +80,7 @@ module _ (scope : Scope TopMeaning) (once : Once scope) where
   abbrev pub item_globals : Bool → Option (List ℕ) → List (List ℕ)
   item_globals g s = global_before g s []
 
-  -- behind an item
+  -- after an item
   pub record Stepped (t : TopNames) (k : ℕ) (more : List (List ℕ)) (rest : Scope TopMeaning) (said : Result TopNames ResolveRefusal) : Type 0 where
     pub end : TopNames
     pub said_is : said ≡ Ok end
@@ -117,7 +117,7 @@ module _ (scope : Scope TopMeaning) (once : Once scope) where
 
   -- ---- all items
 
-  -- the items define the whole scope, and these globals behind others
+  -- the items define the whole scope, and these globals after others
   pub record HasTops (globals : List (List ℕ)) (said : Result TopNames ResolveRefusal) : Type 0 where
     pub end : TopNames
     pub said_is : said ≡ Ok end
@@ -134,17 +134,17 @@ module _ (scope : Scope TopMeaning) (once : Once scope) where
   meant : (done : Scope TopMeaning) (name : List ℕ) (m : TopMeaning) (rest : Scope TopMeaning) → scope ≡ done ++ (name, m) ∷ rest → meaning name scope ≡ Some m
   meant done name m rest whole = rw whole (found done name m rest (rw whole at once))
 
-  -- a global of the items, or one of those behind the first
+  -- a global of the items, or one of those after the first
   kept_meant : (g : Bool) (s : Option (List ℕ)) (k at j : ℕ) (name : List ℕ) (done rest : Scope TopMeaning) (others : List (List ℕ)) → scope ≡ done ++ (kept_scope k g s ++ rest) → slice_get (global_before g s others) at ≡ Some name → j ≡ k + at →
       ((done : Scope TopMeaning) (at : ℕ) → scope ≡ done ++ rest → slice_get others at ≡ Some name → j ≡ kept_next k g s + at → meaning name scope ≡ Some (global_at j)) → meaning name scope ≡ Some (global_at j)
-  kept_meant true None k at j name done rest others whole e is behind = behind done at whole e is
-  kept_meant false None k at j name done rest others whole e is behind = behind done at whole e is
-  kept_meant false (Some key) k at j name done rest others whole e is behind = behind (done ++ (key, other_top) ∷ []) at (moved scope done (key, other_top) rest whole) e is
-  kept_meant true (Some key) k zero j name done rest others whole e is behind =
+  kept_meant true None k at j name done rest others whole e is after = after done at whole e is
+  kept_meant false None k at j name done rest others whole e is after = after done at whole e is
+  kept_meant false (Some key) k at j name done rest others whole e is after = after (done ++ (key, other_top) ∷ []) at (moved scope done (key, other_top) rest whole) e is
+  kept_meant true (Some key) k zero j name done rest others whole e is after =
       let same : key ≡ name = cc in
       let here : k ≡ j = omega (arith, is) in
       rw (← same, ← here) (meant done key (global_at k) rest whole)
-  kept_meant true (Some key) k (suc at) j name done rest others whole e is behind = behind (done ++ (key, global_at k) ∷ []) at (moved scope done (key, global_at k) rest whole) e (omega (arith, is))
+  kept_meant true (Some key) k (suc at) j name done rest others whole e is after = after (done ++ (key, global_at k) ∷ []) at (moved scope done (key, global_at k) rest whole) e (omega (arith, is))
 
   globals_meant : (items : List Item) (k at j : ℕ) (name : List ℕ) (done : Scope TopMeaning) → scope ≡ done ++ tops_from k items → slice_get (globals_in items) at ≡ Some name → j ≡ k + at → meaning name scope ≡ Some (global_at j)
   globals_meant [] k at j name done whole e is = cc

@@ -46,7 +46,7 @@ stays_inside (Some line.CasesEnd) h = refl
 abbrev pub IsBodyLine : List ℕ → Type 0
 IsBodyLine l = form_in true l ≡ Some line.Close → ⊥
 
--- the forms of the lines of a function behind its header, its brace, and the lines behind that
+-- the forms of the lines of a function after its header, its brace, and the lines after that
 pub inside_forms : (body : List (List ℕ)) (brace : List ℕ) (ls : List (List ℕ)) → All IsBodyLine body → form_in true brace ≡ Some line.Close → forms_from true (body ++ brace ∷ ls) ≡ map (form_in true) body ++ Some line.Close ∷ forms_from false ls
 inside_forms [] brace ls all e = ap (λ f. f ∷ forms_from (inside_after true f) ls) e
 inside_forms (l ∷ body) brace ls all e =
@@ -63,7 +63,7 @@ pub no_braces : (body : List (List ℕ)) → All IsBodyLine body → All IsNoBra
 no_braces [] all = All-nil IsNoBrace
 no_braces (l ∷ body) all = All-cons IsNoBrace (form_in true l) (map (form_in true) body) (All-head IsBodyLine l body all) (no_braces body (All-tail IsBodyLine l body all))
 
--- ---- what comes behind the brace does not matter
+-- ---- what comes after the brace does not matter
 
 foreign_free : (names : List (List ℕ)) (p : Place) (fs rest more : List (Option Line)) → any_foreign names p (fs ++ Some line.Close ∷ rest) ≡ any_foreign names p (fs ++ Some line.Close ∷ more)
 foreign_free names p [] rest more = refl

@@ -69,18 +69,18 @@ module _ (ns : Names) (gs : List (List ℕ)) (t : Ty) where
   pair_words : (o : Opd) (b : ℕ) → Operand ns gs t o → Block ns b → (at : ℕ) (rest : List ℕ) → SpellsPair t at (incoming ns gs t at (o ∷ []) (b ∷ [])) (texts (pair_text ns gs o b ++ rest)) (texts rest)
   unfolding is_word_byte begins_name
   pair_words o b is to at rest =
-      let behind : List ℕ = 44 ∷ 32 ∷ 37 ∷ (shown_block ns b ++ (32 ∷ 93 ∷ rest)) in
-      let follow : texts behind ≡ codes "," ∷ (37 ∷ shown_block ns b) ∷ codes "]" ∷ texts rest =
+      let after : List ℕ = 44 ∷ 32 ∷ 37 ∷ (shown_block ns b ++ (32 ∷ 93 ∷ rest)) in
+      let follow : texts after ≡ codes "," ∷ (37 ∷ shown_block ns b) ∷ codes "]" ∷ texts rest =
       comma_texts (32 ∷ 37 ∷ (shown_block ns b ++ (32 ∷ 93 ∷ rest)))
       ∙ ap (λ (ws : Words). codes "," ∷ ws) (texts_space (37 ∷ (shown_block ns b ++ (32 ∷ 93 ∷ rest)))
       ∙ local_texts (shown_block ns b) (32 ∷ 93 ∷ rest) to.named refl ∙ ap (λ (ws : Words). (37 ∷ shown_block ns b) ∷ ws) (texts_space (93 ∷ rest) ∙ close_texts rest)) in
-      let operand : SpellsOperand t (written ns gs o) (texts (opd_text ns gs o ++ behind)) (codes "," ∷ (37 ∷ shown_block ns b) ∷ codes "]" ∷ texts rest) = rw (sym follow) (is.cut.takes behind refl) in
-      let apart : pair_text ns gs o b ++ rest ≡ 91 ∷ 32 ∷ (opd_text ns gs o ++ behind) =
+      let operand : SpellsOperand t (written ns gs o) (texts (opd_text ns gs o ++ after)) (codes "," ∷ (37 ∷ shown_block ns b) ∷ codes "]" ∷ texts rest) = rw (sym follow) (is.cut.takes after refl) in
+      let apart : pair_text ns gs o b ++ rest ≡ 91 ∷ 32 ∷ (opd_text ns gs o ++ after) =
       ap (λ (bs : List ℕ). 91 ∷ 32 ∷ bs)
       (append_assoc (opd_text ns gs o) (codes ", " ++ (block_text (slice_get ns.labels b) ++ codes " ]")) rest
       ∙ ap (λ (bs : List ℕ). opd_text ns gs o ++ (44 ∷ 32 ∷ bs)) (append_assoc (block_text (slice_get ns.labels b)) (codes " ]") rest ∙ ap (λ (bs : List ℕ). bs ++ (32 ∷ 93 ∷ rest)) to.text)) in
-      let words : texts (pair_text ns gs o b ++ rest) ≡ codes "[" ∷ texts (opd_text ns gs o ++ behind) =
-      ap texts apart ∙ open_texts (32 ∷ (opd_text ns gs o ++ behind)) ∙ ap (λ (ws : Words). codes "[" ∷ ws) (texts_space (opd_text ns gs o ++ behind)) in
+      let words : texts (pair_text ns gs o b ++ rest) ≡ codes "[" ∷ texts (opd_text ns gs o ++ after) =
+      ap texts apart ∙ open_texts (32 ∷ (opd_text ns gs o ++ after)) ∙ ap (λ (ws : Words). codes "[" ∷ ws) (texts_space (opd_text ns gs o ++ after)) in
       rw words (Pair (written ns gs o) (shown_block ns b) (37 ∷ shown_block ns b) _ (texts rest) operand to.named.local)
 
   pair_plain : (o : Opd) (b : ℕ) → Operand ns gs t o → Block ns b → list_all is_plain (pair_text ns gs o b) ≡ true
@@ -89,7 +89,7 @@ module _ (ns : Names) (gs : List (List ℕ)) (t : Ty) where
       let name : list_all is_plain (block_text (slice_get ns.labels b)) ≡ true = rw to.text (run_is_plain (shown_block ns b) to.named.run) in
       plain_append (opd_text ns gs o) (codes ", " ++ (block_text (slice_get ns.labels b) ++ codes " ]")) is.cut.plain (plain_append (block_text (slice_get ns.labels b)) (codes " ]") name refl)
 
-  -- more pairs behind one
+  -- more pairs after one
   pairs_more : (o : Opd) (b : ℕ) (p : Opd) (os : List Opd) (c : ℕ) (bs : List ℕ) → Operand ns gs t o → Block ns b → (at : ℕ) →
       SpellsPairs t (at + 1) (incoming ns gs t (at + 1) (p ∷ os) (c ∷ bs)) (texts (pair_text ns gs p c ++ more_pairs ns gs os bs)) [] →
       SpellsPairs t at (incoming ns gs t at (o ∷ p ∷ os) (b ∷ c ∷ bs)) (texts (pair_text ns gs o b ++ more_pairs ns gs (p ∷ os) (c ∷ bs))) []

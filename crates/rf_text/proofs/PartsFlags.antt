@@ -1,4 +1,4 @@
--- Flags as they are printed are read again, and no type or comparison behind them is read as one more.
+-- Flags as they are printed are read again, and no type or comparison after them is read as one more.
 use Rattle.std.proofs.Common.{◌≡◌, ℕ, ◌⊎◌, inl, inr, Bool, true, false, not, ◌&&◌, List, [], ◌∷◌, ◌++◌, Some, None, refl, ◌∙◌, ap, subst, codes, bytes_eq}
 use Rattle.std.specs.List.{list_all}
 use Rattle.vx_num.specs.Keywords.{pred_word}

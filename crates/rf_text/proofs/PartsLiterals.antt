@@ -142,7 +142,7 @@ lane_word w (Some n) h lane = let word : NumberWord w n = number_word w n h lane
 
 -- lists of lanes
 
--- a lane behind its type
+-- a lane after its type
 lane_words : (w : ℕ) (l : Option ℕ) (rest : List ℕ) → is_width w ≡ true → LaneWord w l → stops rest ≡ true →
     texts (int_text w ++ (32 ∷ (lane_text w l ++ rest))) ≡ int_text w ∷ lane_text w l ∷ texts rest
 unfolding is_word_byte begins_name

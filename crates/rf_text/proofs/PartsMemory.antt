@@ -10,12 +10,12 @@ use Rattle.ir_types.specs.declared.ty.Ty.{Ty}
 use Rattle.ir_types.specs.declared.ty.Ty.TheVariants.{Void, Int, Ptr, Row}
 use Rattle.ir_types.specs.declared.ty.Elem.{Elem}
 use Rattle.ir_types.specs.declared.ty.Elem.TheVariants.{One, Array}
-use Rattle.ir_types.specs.Typed.{is_width, is_scalar, is_number, is_value, is_stored, IsAlign, IsAlignIfAny, IsElem}
+use Rattle.ir_types.specs.Typed.{is_width, is_scalar, is_number, is_value, is_stored, IsAlign, IsAlignIfAny, IsElem, lane_width}
 use Rattle.ir_lex.specs.Bytes.{is_control, is_word_byte, begins_name}
 use Rattle.ir_lex.specs.Scan.{texts}
 use Rattle.ir_lex.proofs.Again.{stops, texts_space}
 use Rattle.ir_lex.proofs.Classes.{both, clash}
-use Rattle.ir_words.specs.Kinds.{fits, is_integer, is_vector, bits_of}
+use Rattle.ir_words.specs.Kinds.{fits, is_integer, is_vector}
 use Rattle.ir_words.specs.Words.{Words}
 use Rattle.ir_words.specs.Values.{align_of, is_align}
 use Rattle.ir_words.specs.Reading.{length_of, item_of}
@@ -112,13 +112,13 @@ stored_value Ptr h = clash false refl h
 stored_value (Row n w) h = (both (is_number (Row n w)) _ h).0
 
 -- what is stored is a number of more than one bit
-pub stored_test : (t : Ty) → is_stored t ≡ true → (is_integer t || is_vector t) && not (nat_eq (bits_of t) 1) ≡ true
+pub stored_test : (t : Ty) → is_stored t ≡ true → (is_integer t || is_vector t) && not (nat_eq (lane_width t) 1) ≡ true
 stored_test Void h = h
 stored_test (Int w) h = wide_not_bit w (both (is_number (Int w)) _ h).1
 stored_test Ptr h = clash false refl h
 stored_test (Row n w) h = wide_not_bit w (both (is_number (Row n w)) _ h).1
 
-pub byte_test : (t : Ty) → is_scalar t ≡ true → is_stored t ≡ true → is_integer t && not (nat_eq (bits_of t) 1) ≡ true
+pub byte_test : (t : Ty) → is_scalar t ≡ true → is_stored t ≡ true → is_integer t && not (nat_eq (lane_width t) 1) ≡ true
 byte_test Void s h = s
 byte_test (Int w) s h = wide_not_bit w (both (is_number (Int w)) _ h).1
 byte_test Ptr s h = clash false refl s

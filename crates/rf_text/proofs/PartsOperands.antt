@@ -97,13 +97,13 @@ operand ns gs t (Val id) shown is pointer e = value_operand ns gs t id shown e
 operand ns gs t (Lit literal) shown is pointer e = subst (λ (u : Ty). Operand ns gs u (Lit literal)) (some_is e) (literal_operand ns gs literal is pointer)
 operand ns gs t (Sym g) shown is pointer e = global_operand ns gs t g shown e
 
--- the same behind its type, which is of a kind
+-- the same after its type, which is of a kind
 pub arg_cut : (ns : Names) (gs : List (List ℕ)) (k : Taken fits) (t : Ty) (o : Opd) → is_value t ≡ true → fits k t ≡ true → Operand ns gs t o → Cut (SpellsTyped k (arg t (written ns gs o))) (ty_text t ++ (32 ∷ opd_text ns gs o))
 unfolding is_control is_word_byte begins_name
 arg_cut ns gs k t o value fit is = record {
   plain = plain_append (ty_text t) (32 ∷ opd_text ns gs o) (kind_cut k t value fit).plain is.cut.plain;
   takes = λ rest stop. rw (append_assoc (ty_text t) (32 ∷ opd_text ns gs o) rest) (record {
-    behind = texts (32 ∷ (opd_text ns gs o ++ rest));
+    after = texts (32 ∷ (opd_text ns gs o ++ rest));
     type = (kind_cut k t value fit).takes (32 ∷ (opd_text ns gs o ++ rest)) refl;
     operand = rw (texts_space (opd_text ns gs o ++ rest)) (is.cut.takes rest stop);
   });

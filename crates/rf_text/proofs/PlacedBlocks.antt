@@ -66,40 +66,40 @@ module _ (names : List (List ℕ)) (ns : Names) (gs : List (List ℕ)) where
   -- lines that stand where no block is open, and leave none open
   pub record LinesStand (line n insts blocks : ℕ) (forms : List Line) : Type 0 where
     pub next : ℕ
-    pub insts_behind : ℕ
-    pub blocks_behind : ℕ
-    pub stand : body_lines names line (place n insts blocks no_block) forms ≡ Ok (place next insts_behind blocks_behind no_block)
-    pub some : nat_eq blocks_behind 0 ≡ false
+    pub insts_after : ℕ
+    pub blocks_after : ℕ
+    pub stand : body_lines names line (place n insts blocks no_block) forms ≡ Ok (place next insts_after blocks_after no_block)
+    pub some : nat_eq blocks_after 0 ≡ false
 
-  -- the instructions of a block, and the blocks behind it
-  behind_label : (line n insts at : ℕ) (b : Block) (bs : List Block) → (block : InstsStand names ns gs line n insts (at + 1) (at + 1) front b.insts (blocks_named bs)) →
-      (rest : LinesStand (line + length (insts_forms ns gs b.insts)) block.next block.insts_behind (at + 1) (more_blocks_forms ns gs (at + 1) bs)) →
-      body_lines names line (place n insts (at + 1) front) (insts_forms ns gs b.insts ++ more_blocks_forms ns gs (at + 1) bs) ≡ Ok (place rest.next rest.insts_behind rest.blocks_behind no_block)
-  behind_label line n insts at b bs block rest =
-      lines_append names line (place n insts (at + 1) front) (place block.next block.insts_behind (at + 1) no_block) (insts_forms ns gs b.insts) (more_blocks_forms ns gs (at + 1) bs) block.stand
+  -- the instructions of a block, and the blocks after it
+  past_label : (line n insts at : ℕ) (b : Block) (bs : List Block) → (block : InstsStand names ns gs line n insts (at + 1) (at + 1) front b.insts (blocks_named bs)) →
+      (rest : LinesStand (line + length (insts_forms ns gs b.insts)) block.next block.insts_after (at + 1) (more_blocks_forms ns gs (at + 1) bs)) →
+      body_lines names line (place n insts (at + 1) front) (insts_forms ns gs b.insts ++ more_blocks_forms ns gs (at + 1) bs) ≡ Ok (place rest.next rest.insts_after rest.blocks_after no_block)
+  past_label line n insts at b bs block rest =
+      lines_append names line (place n insts (at + 1) front) (place block.next block.insts_after (at + 1) no_block) (insts_forms ns gs b.insts) (more_blocks_forms ns gs (at + 1) bs) block.stand
       ∙ rest.stand
 
   some_block : (at : ℕ) → nat_eq (at + 1) 0 ≡ false
   some_block at = grind (arith, nat_tests)
 
   more_stand : (line n insts at : ℕ) (bs : List Block) → nat_eq at 0 ≡ false → AreFitting names gs at bs → Ahead ns at n (blocks_named bs) → LinesStand line n insts at (more_blocks_forms ns gs at bs)
-  more_stand line n insts at [] some fits ahead = record { next = n; insts_behind = insts; blocks_behind = at; stand = refl; some = some }
+  more_stand line n insts at [] some fits ahead = record { next = n; insts_after = insts; blocks_after = at; stand = refl; some = some }
   more_stand line n insts at (b ∷ bs) some fits ahead =
       let small : n < 2 ^ 64 = ahead_small ns at n (Label b.name) (insts_named b.insts (blocks_named bs)) ahead in
       let found : slice_get ns.labels at ≡ Some (shown n b.name) = label_found ns at n b.name (insts_named b.insts (blocks_named bs)) ahead in
       let block : InstsStand names ns gs (line + 1 + 1) (counted n b.name) insts (at + 1) (at + 1) front b.insts (blocks_named bs) =
       block_insts (line + 1 + 1) (counted n b.name) insts at (at + 1) b (blocks_named bs) fits.0 (label_passed ns at n b.name (insts_named b.insts (blocks_named bs)) ahead) in
-      let rest : LinesStand (line + 1 + 1 + length (insts_forms ns gs b.insts)) block.next block.insts_behind (at + 1) (more_blocks_forms ns gs (at + 1) bs) =
-      more_stand (line + 1 + 1 + length (insts_forms ns gs b.insts)) block.next block.insts_behind (at + 1) bs (some_block at) fits.1 block.ahead in
-      let behind : List Line = insts_forms ns gs b.insts ++ more_blocks_forms ns gs (at + 1) bs in
+      let rest : LinesStand (line + 1 + 1 + length (insts_forms ns gs b.insts)) block.next block.insts_after (at + 1) (more_blocks_forms ns gs (at + 1) bs) =
+      more_stand (line + 1 + 1 + length (insts_forms ns gs b.insts)) block.next block.insts_after (at + 1) bs (some_block at) fits.1 block.ahead in
+      let after : List Line = insts_forms ns gs b.insts ++ more_blocks_forms ns gs (at + 1) bs in
       record {
         next = rest.next;
-        insts_behind = rest.insts_behind;
-        blocks_behind = rest.blocks_behind;
+        insts_after = rest.insts_after;
+        blocks_after = rest.blocks_after;
         stand =
-            ap (λ (name : Option (List ℕ)). body_lines names (line + 1) (place n insts at no_block) (label_forms name ++ behind)) found
-            ∙ ap (λ (r : Result Place ReadRefusal). r >>= (λ q. body_lines names (line + 1 + 1) q behind)) (label_stands (line + 1) n insts at b.name fits.0.named small)
-            ∙ behind_label (line + 1 + 1) (counted n b.name) insts at b bs block rest;
+            ap (λ (name : Option (List ℕ)). body_lines names (line + 1) (place n insts at no_block) (label_forms name ++ after)) found
+            ∙ ap (λ (r : Result Place ReadRefusal). r >>= (λ q. body_lines names (line + 1 + 1) q after)) (label_stands (line + 1) n insts at b.name fits.0.named small)
+            ∙ past_label (line + 1 + 1) (counted n b.name) insts at b bs block rest;
         some = rest.some;
       }
 
@@ -109,30 +109,30 @@ module _ (names : List (List ℕ)) (ns : Names) (gs : List (List ℕ)) where
   first_stands line n b bs None plain fits more ahead =
       let block : InstsStand names ns gs line (n + 1) 0 1 1 front b.insts (blocks_named bs) =
       block_insts line (n + 1) 0 0 1 b (blocks_named bs) fits (label_passed ns 0 n None (insts_named b.insts (blocks_named bs)) ahead) in
-      let rest : LinesStand (line + length (insts_forms ns gs b.insts)) block.next block.insts_behind 1 (more_blocks_forms ns gs 1 bs) =
-      more_stand (line + length (insts_forms ns gs b.insts)) block.next block.insts_behind 1 bs refl more block.ahead in
+      let rest : LinesStand (line + length (insts_forms ns gs b.insts)) block.next block.insts_after 1 (more_blocks_forms ns gs 1 bs) =
+      more_stand (line + length (insts_forms ns gs b.insts)) block.next block.insts_after 1 bs refl more block.ahead in
       record {
         next = rest.next;
-        insts_behind = rest.insts_behind;
-        blocks_behind = rest.blocks_behind;
+        insts_after = rest.insts_after;
+        blocks_after = rest.blocks_after;
         stand =
             unnamed_block line n 0 b.insts (more_blocks_forms ns gs 1 bs) fits.ends
-            ∙ behind_label line (n + 1) 0 0 b bs block rest;
+            ∙ past_label line (n + 1) 0 0 b bs block rest;
         some = rest.some;
       }
   first_stands line n b bs (Some name) plain fits more ahead =
       let small : n < 2 ^ 64 = ahead_small ns 0 n (Label (Some name)) (insts_named b.insts (blocks_named bs)) ahead in
       let block : InstsStand names ns gs (line + 1) n 0 1 1 front b.insts (blocks_named bs) =
       block_insts (line + 1) n 0 0 1 b (blocks_named bs) fits (label_passed ns 0 n (Some name) (insts_named b.insts (blocks_named bs)) ahead) in
-      let rest : LinesStand (line + 1 + length (insts_forms ns gs b.insts)) block.next block.insts_behind 1 (more_blocks_forms ns gs 1 bs) =
-      more_stand (line + 1 + length (insts_forms ns gs b.insts)) block.next block.insts_behind 1 bs refl more block.ahead in
+      let rest : LinesStand (line + 1 + length (insts_forms ns gs b.insts)) block.next block.insts_after 1 (more_blocks_forms ns gs 1 bs) =
+      more_stand (line + 1 + length (insts_forms ns gs b.insts)) block.next block.insts_after 1 bs refl more block.ahead in
       record {
         next = rest.next;
-        insts_behind = rest.insts_behind;
-        blocks_behind = rest.blocks_behind;
+        insts_after = rest.insts_after;
+        blocks_after = rest.blocks_after;
         stand =
             ap (λ (r : Result Place ReadRefusal). r >>= (λ q. body_lines names (line + 1) q (insts_forms ns gs b.insts ++ more_blocks_forms ns gs 1 bs))) (label_stands line n 0 0 (Some name) plain small)
-            ∙ behind_label (line + 1) n 0 0 b bs block rest;
+            ∙ past_label (line + 1) n 0 0 b bs block rest;
         some = rest.some;
       }
 
@@ -142,7 +142,7 @@ module _ (names : List (List ℕ)) (ns : Names) (gs : List (List ℕ)) where
 
 -- ---- a function
 
--- the header in this line is one that opens a function, whose body stands behind it
+-- the header in this line is one that opens a function, whose body stands after it
 pub record BodyStands (names gs : List (List ℕ)) (line : ℕ) (f : Func) : Type 0 where
   pub next : ℕ
   pub params : after_params line 0 (shown_params (names_of f) 0 f.params) ≡ Ok next

@@ -21,7 +21,7 @@ use Rattle.ir_read.specs.Outlook.{has}
 use Rattle.ir_read.specs.Numbers.{after_result, after_param, after_params}
 use Rattle.ir_read.specs.Position.{may_stand, spot_after, opened, after_stmt, after_case, after_cases}
 use Rattle.ir_read.specs.Function.{any_barred, is_foreign, after_inst}
-use Rattle.ir_read.proofs.Placing.{Place, Opening, no_block, front, behind, cases, place, body_line, body_lines}
+use Rattle.ir_read.proofs.Placing.{Place, Opening, no_block, front, after, cases, place, body_line, body_lines}
 use Rattle.rf_text.specs.Headed.{shown_name, shown_params}
 use Rattle.rf_text.specs.Shown.{is_call}
 use Rattle.rf_text.specs.Written.{shown_text, shown_global, arg_of, op_of, result_of, stmt_of, cases_of, first_ty, more_forms, forms_of}
@@ -29,7 +29,7 @@ use Rattle.rf_text.specs.ModuleForms.{insts_forms}
 use Rattle.ir_types.specs.Formed.{is_plain}
 use Rattle.rf_text.proofs.PlacedNames.{Ahead, name_taken, ahead_small, value_found, value_passed}
 
--- ---- lines behind others
+-- ---- lines after others
 
 next_line : (n k : ℕ) → n + 1 + k ≡ n + suc k
 next_line n k = omega arith
@@ -45,7 +45,7 @@ lines_append names n p q (f ∷ fs) gs e = here (body_line names n p f) e (λ r.
 
 -- ---- parameters
 
--- the counter behind the parameters, as a reader has it
+-- the counter after the parameters, as a reader has it
 pub record ParamsTaken (ns : Names) (line at n : ℕ) (from : ℕ) (ps : List Param) (vs : List Named) : Type 0 where
   pub next : ℕ
   pub taken : after_params line n (shown_params ns from ps) ≡ Ok next
@@ -71,15 +71,15 @@ negated : (a : Bool) → not a ≡ true → a ≡ false
 negated true h = cc
 negated false h = refl
 
--- what is open in a block, behind phis alone or not
+-- what is open in a block, after phis alone or not
 abbrev pub opening : Bool → Opening
 opening true = front
-opening false = behind
+opening false = after
 
--- and behind an instruction with its lines
-abbrev pub opening_behind : Bool → Bool → Opening
-opening_behind true phis = no_block
-opening_behind false phis = opening phis
+-- and after an instruction with its lines
+abbrev pub opening_after : Bool → Bool → Opening
+opening_after true phis = no_block
+opening_after false phis = opening phis
 
 abbrev pub IsFree : List (List ℕ) → List (List ℕ) → Opd → Type 0
 IsFree names gs (Sym g) = has names (shown_global gs g) ≡ false
@@ -113,7 +113,7 @@ may_stand_in true op phis = refl
 may_stand_in false (Phi blocks) phis = let none : false ≡ true = phis refl in cc
 may_stand_in false op phis = refl
 
--- behind its first line, a switch is open for its cases
+-- after its first line, a switch is open for its cases
 cases_stand : (names : List (List ℕ)) (ns : Names) (ty : Ty) (ms : List (Option ℕ)) (bs : List ℕ) (line next insts blocks : ℕ) →
     body_lines names line (place next insts blocks cases) (cases_of ns ty ms bs ++ form.CasesEnd ∷ []) ≡ Ok (place next insts blocks no_block)
 unfolding after_case after_cases
@@ -122,7 +122,7 @@ cases_stand names ns ty (m ∷ ms) [] line next insts blocks = refl
 cases_stand names ns ty (m ∷ ms) (b ∷ bs) line next insts blocks = cases_stand names ns ty ms bs (line + 1) next insts blocks
 
 more_stand : (names : List (List ℕ)) (ns : Names) (os : List Opd) (op : Op) (before : Bool) → is_call op ≡ false → (is_phi op ≡ true → before ≡ true) → (line next insts blocks : ℕ) →
-    body_lines names line (place next insts blocks (spot_after (op_of op))) (more_forms ns os op) ≡ Ok (place next insts blocks (opening_behind (is_terminator op) (before && is_phi op)))
+    body_lines names line (place next insts blocks (spot_after (op_of op))) (more_forms ns os op) ≡ Ok (place next insts blocks (opening_after (is_terminator op) (before && is_phi op)))
 more_stand names ns os (Switch other cases to) before call phis line next insts blocks = cases_stand names ns (first_ty ns os) cases to line next insts blocks
 more_stand names ns os (Phi bs) before call phis line next insts blocks = rw (phis refl) refl
 more_stand names ns os (Call site) before call phis line next insts blocks = cc
@@ -152,7 +152,7 @@ module _ (names : List (List ℕ)) (ns : Names) (gs : List (List ℕ)) where
       rw (no_foreign before n insts number i.op fits.other fits.allocas, none_barred names ns gs i.opds fits.free, may_stand_in before i.op phis, opened_in before n insts (number + 1), taken) refl
 
   pub inst_stands : (before : Bool) (line n next insts number : ℕ) (i : Inst) → IsFitting names gs number i → (is_phi i.op ≡ true → before ≡ true) → after_result line n (stmt_of ns gs i).result ≡ Ok next →
-      body_lines names line (place n insts (number + 1) (opening before)) (forms_of ns gs i) ≡ Ok (place next (insts + 1) (number + 1) (opening_behind (is_terminator i.op) (before && is_phi i.op)))
+      body_lines names line (place n insts (number + 1) (opening before)) (forms_of ns gs i) ≡ Ok (place next (insts + 1) (number + 1) (opening_after (is_terminator i.op) (before && is_phi i.op)))
   inst_stands before line n next insts number i fits phis taken =
       ap (λ (r : Result Place ReadRefusal). r >>= (λ q. body_lines names (line + 1) q (more_forms ns i.opds i.op))) (stmt_stands before line n next insts number i fits phis taken)
       ∙ more_stand names ns i.opds i.op before fits.other phis (line + 1) next (insts + 1) (number + 1)
@@ -161,35 +161,35 @@ module _ (names : List (List ℕ)) (ns : Names) (gs : List (List ℕ)) where
 
   pub record InstsStand (line n insts blocks at : ℕ) (spot : Opening) (is : List Inst) (vs : List Named) : Type 0 where
     pub next : ℕ
-    pub insts_behind : ℕ
-    pub stand : body_lines names line (place n insts blocks spot) (insts_forms ns gs is) ≡ Ok (place next insts_behind blocks no_block)
+    pub insts_after : ℕ
+    pub stand : body_lines names line (place n insts blocks spot) (insts_forms ns gs is) ≡ Ok (place next insts_after blocks no_block)
     pub ahead : Ahead ns at next vs
 
   pub insts_stand : (before : Bool) (line n insts number at : ℕ) (i : Inst) (is : List Inst) (vs : List Named) → ends_from i is ≡ true → PhisFirst before (i ∷ is) → All (IsFitting names gs number) (i ∷ is) →
       Ahead ns at n (insts_named (i ∷ is) vs) → InstsStand line n insts (number + 1) at (opening before) (i ∷ is) vs
   insts_stand before line n insts number at i [] vs ends phis fits ahead =
       let result : ResultTaken ns line at n (stmt_of ns gs i).result vs = result_taken ns line at n i vs (is_void i.ty) (is_store i.op) (All-head (IsFitting names gs number) i [] fits).named ahead in
-      let stands : body_lines names line (place n insts (number + 1) (opening before)) (forms_of ns gs i) ≡ Ok (place result.next (insts + 1) (number + 1) (opening_behind (is_terminator i.op) (before && is_phi i.op))) =
+      let stands : body_lines names line (place n insts (number + 1) (opening before)) (forms_of ns gs i) ≡ Ok (place result.next (insts + 1) (number + 1) (opening_after (is_terminator i.op) (before && is_phi i.op))) =
       inst_stands before line n result.next insts number i (All-head (IsFitting names gs number) i [] fits) phis.0 result.taken in
-      let ended : opening_behind (is_terminator i.op) (before && is_phi i.op) ≡ no_block = rw ends refl in
+      let ended : opening_after (is_terminator i.op) (before && is_phi i.op) ≡ no_block = rw ends refl in
       record {
         next = result.next;
-        insts_behind = insts + 1;
+        insts_after = insts + 1;
         stand = ap (body_lines names line (place n insts (number + 1) (opening before))) (append-nil (forms_of ns gs i)) ∙ stands ∙ ap (λ (s : Opening). Ok (place result.next (insts + 1) (number + 1) s)) ended;
         ahead = result.ahead;
       }
   insts_stand before line n insts number at i (j ∷ is) vs ends phis fits ahead =
       let result : ResultTaken ns line at n (stmt_of ns gs i).result (insts_named (j ∷ is) vs) =
       result_taken ns line at n i (insts_named (j ∷ is) vs) (is_void i.ty) (is_store i.op) (All-head (IsFitting names gs number) i (j ∷ is) fits).named ahead in
-      let stands : body_lines names line (place n insts (number + 1) (opening before)) (forms_of ns gs i) ≡ Ok (place result.next (insts + 1) (number + 1) (opening_behind (is_terminator i.op) (before && is_phi i.op))) =
+      let stands : body_lines names line (place n insts (number + 1) (opening before)) (forms_of ns gs i) ≡ Ok (place result.next (insts + 1) (number + 1) (opening_after (is_terminator i.op) (before && is_phi i.op))) =
       inst_stands before line n result.next insts number i (All-head (IsFitting names gs number) i (j ∷ is) fits) phis.0 result.taken in
-      let goes : opening_behind (is_terminator i.op) (before && is_phi i.op) ≡ opening (before && is_phi i.op) = rw (negated (is_terminator i.op) (both (not (is_terminator i.op)) _ ends).0) refl in
+      let goes : opening_after (is_terminator i.op) (before && is_phi i.op) ≡ opening (before && is_phi i.op) = rw (negated (is_terminator i.op) (both (not (is_terminator i.op)) _ ends).0) refl in
       let rest : InstsStand (line + length (forms_of ns gs i)) result.next (insts + 1) (number + 1) at (opening (before && is_phi i.op)) (j ∷ is) vs =
       insts_stand (before && is_phi i.op) (line + length (forms_of ns gs i)) result.next (insts + 1) number at j is vs (both (not (is_terminator i.op)) _ ends).1 phis.1
       (All-tail (IsFitting names gs number) i (j ∷ is) fits) result.ahead in
       record {
         next = rest.next;
-        insts_behind = rest.insts_behind;
+        insts_after = rest.insts_after;
         stand =
             lines_append names line (place n insts (number + 1) (opening before)) (place result.next (insts + 1) (number + 1) (opening (before && is_phi i.op))) (forms_of ns gs i) (insts_forms ns gs (j ∷ is))
             (stands ∙ ap (λ (s : Opening). Ok (place result.next (insts + 1) (number + 1) s)) goes)

@@ -1,4 +1,4 @@
--- Kept lines, empty lines and whole functions as items: what is read behind each of them.
+-- Kept lines, empty lines and whole functions as items: what is read after each of them.
 use Rattle.std.proofs.Common.{◌≡◌, ℕ, suc, ◌+◌, true, false, List, [], ◌∷◌, ◌++◌, length, map, Option, None, Some, Result, Ok, Err, nat_eq, refl, sym, ◌∙◌, ap, subst, arith}
 use Rattle.std.proofs.lemmas.List.{append_assoc, append-nil}
 use Rattle.std.proofs.lemmas.List.Elements.{All-head, All-tail}
@@ -44,7 +44,7 @@ with_more o n f fs q p e =
 next_line : (n k : ℕ) → n + 1 + k ≡ n + suc k
 next_line n k = omega arith
 
--- what is read of lines behind others, when those have been read
+-- what is read of lines after others, when those have been read
 abbrev pub Goes : Known → List (List ℕ) → Read → List Line → List (Option Line) → Place → ℕ → OpenFunction → Type 0
 Goes known ls done fs rest p n o = items_from known ls n (going_on done o) (map Some fs ++ rest) ≡ items_from known ls (n + length fs) (going_on done (with_lines o n fs p)) rest
 
@@ -80,7 +80,7 @@ body_read known ls n done o (f ∷ fs) rest p e = line_added known ls n done o f
 
 -- ---- items
 
--- lines of these forms, of which the first has the number n among these lines, behind what is read as the items before, are all these
+-- lines of these forms, of which the first has the number n among these lines, after what is read as the items before, are all these
 -- items with them
 abbrev pub Remain : Known → List (List ℕ) → ℕ → List DraftItem → List (Option Line) → List DraftItem → Type 0
 Remain known ls n before fs items = (done : Read) → done.items ≡ before → items_from known ls n (between done) fs ≡ Ok items
@@ -121,11 +121,11 @@ pub function_remains : (known : Known) (ls : List (List ℕ)) (n : ℕ) (before 
     after_params n 0 head.params ≡ Ok first → body_lines known.names (n + 1) (start first) front ≡ Ok (place next insts blocks no_block) → nat_eq blocks 0 ≡ false →
     Remain known ls (n + 1 + length front + 1) (before ++ draft.Func n head (numbered_from (n + 1) front) ∷ []) rest items → Remain known ls n before (Some (form.Define name (Some head)) ∷ (map Some front ++ Some form.Close ∷ rest)) items
 function_remains known ls n before items name head front rest first next insts blocks other params stand some r = λ done e.
-    let open_behind : OpenFunction = made n head (numbered_from (n + 1) front) (place next insts blocks no_block) in
+    let open_after : OpenFunction = made n head (numbered_from (n + 1) front) (place next insts blocks no_block) in
     head_read known ls n done name head first (map Some front ++ Some form.Close ∷ rest) (not_opaque known (n + 1) first head (place next insts blocks no_block) front rest other stand) params
     ∙ body_read known ls (n + 1) done (made n head [] (start first)) front (Some form.Close ∷ rest) (place next insts blocks no_block) stand
     ∙ close_read known ls (n + 1 + length front) done n head (numbered_from (n + 1) front) next insts blocks rest some
-    ∙ r (closed done open_behind) (closed_items done open_behind ∙ ap (λ (is : List DraftItem). is ++ draft.Func n head (numbered_from (n + 1) front) ∷ []) e)
+    ∙ r (closed done open_after) (closed_items done open_after ∙ ap (λ (is : List DraftItem). is ++ draft.Func n head (numbered_from (n + 1) front) ∷ []) e)
 
 -- the lines of an opaque function are passed
 passed_read : (known : Known) (ls : List (List ℕ)) (n : ℕ) (done : Read) (fs rest : List (Option Line)) → All IsNoBrace fs → items_from known ls n (passing done) (fs ++ Some form.Close ∷ rest) ≡ items_from known ls (n + length fs + 1) (between done) rest

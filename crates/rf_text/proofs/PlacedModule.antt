@@ -88,9 +88,9 @@ pub apart_front : (xs ys : List Id) → Apart (xs ++ ys) → Apart xs
 apart_front [] ys h = tt
 apart_front (x ∷ xs) ys h = (none_front x xs ys h.0, apart_front xs ys h.1)
 
-pub apart_behind : (xs ys : List Id) → Apart (xs ++ ys) → Apart ys
-apart_behind [] ys h = h
-apart_behind (x ∷ xs) ys h = apart_behind xs ys h.1
+pub apart_after : (xs ys : List Id) → Apart (xs ++ ys) → Apart ys
+apart_after [] ys h = h
+apart_after (x ∷ xs) ys h = apart_after xs ys h.1
 
 module _ (m : Module) (known : Known) (free : (o : Opd) → IsAllowed m o → IsFree known.names m.globals o) where
   item_fits : (i : Item) (is : List Item) → IsFormedItem m i → IsPlainItem i → IsAllowedItem m i → IsCountedItem i → Apart (item_ids i) → (has_function (i ∷ is) ≡ true → known.other_pointers ≡ false) → IsFittingItem known m.globals i
@@ -98,15 +98,15 @@ module _ (m : Module) (known : Known) (free : (o : Opd) → IsAllowed m o → Is
   item_fits (Opaque text) is formed plain allowed counted apart pointers = tt
   item_fits (FuncItem f) is formed plain allowed counted apart pointers = (pointers refl, func_fits m known.names free f formed plain allowed counted apart)
 
-  function_behind : (i : Item) (is : List Item) → has_function is ≡ true → has_function (i ∷ is) ≡ true
-  function_behind (Kept text) is h = h
-  function_behind (Opaque text) is h = h
-  function_behind (FuncItem f) is h = refl
+  function_after : (i : Item) (is : List Item) → has_function is ≡ true → has_function (i ∷ is) ≡ true
+  function_after (Kept text) is h = h
+  function_after (Opaque text) is h = h
+  function_after (FuncItem f) is h = refl
 
   pub items_fit : (is : List Item) → All (IsFormedItem m) is → All IsPlainItem is → All (IsAllowedItem m) is → All IsCountedItem is → Apart (ids_of_items is) → (has_function is ≡ true → known.other_pointers ≡ false) → AreFittingItems known m.globals is
   items_fit [] formed plain allowed counted apart pointers = tt
   items_fit (i ∷ is) formed plain allowed counted apart pointers = (
     item_fits i is (All-head (IsFormedItem m) i is formed) (All-head IsPlainItem i is plain) (All-head (IsAllowedItem m) i is allowed) (All-head IsCountedItem i is counted) (apart_front (item_ids i) (ids_of_items is) apart) pointers,
-    items_fit is (All-tail (IsFormedItem m) i is formed) (All-tail IsPlainItem i is plain) (All-tail (IsAllowedItem m) i is allowed) (All-tail IsCountedItem i is counted) (apart_behind (item_ids i) (ids_of_items is) apart)
-        (λ h. pointers (function_behind i is h)),
+    items_fit is (All-tail (IsFormedItem m) i is formed) (All-tail IsPlainItem i is plain) (All-tail (IsAllowedItem m) i is allowed) (All-tail IsCountedItem i is counted) (apart_after (item_ids i) (ids_of_items is) apart)
+        (λ h. pointers (function_after i is h)),
   )

@@ -191,7 +191,7 @@ func_of m f z p q = record {
     returned = returned f.ret z.returns;
     named = p.named;
     typed = two_all (λ (x : Param). is_value x.ty ≡ true) (λ (x : Param). IsAttributes x.noalias x.attrs) IsParam (λ x t a. record { typed = t; attributed = a }) f.params z.params p.header.attributed;
-    behind = p.header.behind;
+    at_end = p.header.at_end;
   };
   params = p.params;
   blocks = two_all formed.IsPlainBlock HasNoCall IsPlainBlock block_of f.blocks p.blocks q.calls;
@@ -236,7 +236,7 @@ func_formed f p = record {
   header = record {
     in_front = p.header.in_front;
     attributed = All-weaker IsParam (λ (x : Param). IsAttributes x.noalias x.attrs) (λ x h. h.attributed) f.params p.header.typed;
-    behind = p.header.behind;
+    at_end = p.header.at_end;
   };
   named = p.header.named;
   params = p.params;

@@ -41,7 +41,7 @@ use Rattle.rf_text.specs.Spelled.{closes, AreInside, NoLine, OneLine, IsBrace, s
 use Rattle.rf_text.proofs.Kept.{formed}
 use Rattle.rf_text.proofs.OpaqueLines.{IsSound, Whole, whole_sound, IsBodyLine, function_forms, Parts, parts_of}
 use Rattle.rf_text.proofs.PlacedBlocks.{all_ahead}
-use Rattle.rf_text.proofs.PlacedModule.{apart_front, apart_behind}
+use Rattle.rf_text.proofs.PlacedModule.{apart_front, apart_after}
 use Rattle.rf_text.proofs.PlacedNames.{Ahead, Apart, pairs_apart, value_passed, label_found, label_passed}
 use Rattle.rf_text.proofs.SpellingReads.{inside_form}
 use Rattle.rf_text.proofs.Splitting.{lines_of_joined}
@@ -152,7 +152,7 @@ more_forms' e = cc
 no_form : {P : Type 0} {b : Option Line} {bs : List (Option Line)} → [] ≡ b ∷ bs → P
 no_form e = cc
 
--- lines of a function behind its header that have these forms
+-- lines of a function after its header that have these forms
 record Split (ls : List (List ℕ)) (fs : List Line) : Type 0 where
   body : List (List ℕ)
   brace : List ℕ
@@ -255,7 +255,7 @@ module _ (m : Module) (globals : All (λ g. is_name g ≡ true) m.globals) (all 
       let ci : IsCountedItem i = All-head IsCountedItem i is few in
       let own : Said (item_text m.globals i) (item_forms m.globals i) = item_said m globals i (All-head (IsFormedItem m) i is formed) (All-head IsPlainItem i is plain) (once_front (item_ids i) (ids_of_items is) once) (All-head IsCountedItem i is few) in
       let rest : SaidItems is (more_items m.globals (is_function i) is) (more_items_forms m.globals (is_function i) is) =
-      more_items_said (is_function i) is (All-tail (IsFormedItem m) i is formed) (All-tail IsPlainItem i is plain) (once_back (item_ids i) (ids_of_items is) once) (All-tail IsCountedItem i is few) (All-tail IsOpaqueItem i is opaque) (apart_behind (item_ids i) (ids_of_items is) apart) in
+      more_items_said (is_function i) is (All-tail (IsFormedItem m) i is formed) (All-tail IsPlainItem i is plain) (once_back (item_ids i) (ids_of_items is) once) (All-tail IsCountedItem i is few) (All-tail IsOpaqueItem i is opaque) (apart_after (item_ids i) (ids_of_items is) apart) in
       record {
         said = said_append (gap_said before (is_function i)) (said_append (item_said m globals i (All-head (IsFormedItem m) i is formed) (All-head IsPlainItem i is plain) (once_front (item_ids i) (ids_of_items is) once) (All-head IsCountedItem i is few)) rest.said);
         laid = gap_laid before (is_function i) (i ∷ is) _
@@ -267,7 +267,7 @@ module _ (m : Module) (globals : All (λ g. is_name g ≡ true) m.globals) (all 
   all_items_said [] formed plain once few opaque apart = record { said = said_none; laid = NoItem }
   all_items_said (i ∷ is) formed plain once few opaque apart =
       let rest : SaidItems is (more_items m.globals (is_function i) is) (more_items_forms m.globals (is_function i) is) =
-      more_items_said (is_function i) is (All-tail (IsFormedItem m) i is formed) (All-tail IsPlainItem i is plain) (once_back (item_ids i) (ids_of_items is) once) (All-tail IsCountedItem i is few) (All-tail IsOpaqueItem i is opaque) (apart_behind (item_ids i) (ids_of_items is) apart) in
+      more_items_said (is_function i) is (All-tail (IsFormedItem m) i is formed) (All-tail IsPlainItem i is plain) (once_back (item_ids i) (ids_of_items is) once) (All-tail IsCountedItem i is few) (All-tail IsOpaqueItem i is opaque) (apart_after (item_ids i) (ids_of_items is) apart) in
       record {
         said = said_append (item_said m globals i (All-head (IsFormedItem m) i is formed) (All-head IsPlainItem i is plain) (once_front (item_ids i) (ids_of_items is) once) (All-head IsCountedItem i is few)) rest.said;
         laid = item_laid i (All-head (IsFormedItem m) i is formed) (All-head IsPlainItem i is plain) (once_front (item_ids i) (ids_of_items is) once) (All-head IsCountedItem i is few) (All-head IsOpaqueItem i is opaque) (apart_front (item_ids i) (ids_of_items is) apart) is rest.said.lines rest.laid;

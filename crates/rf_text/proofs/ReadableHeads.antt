@@ -22,7 +22,7 @@ use Rattle.ir_read.specs.Forms.{form_in, form_by}
 use Rattle.rf_text.proofs.Kept.{Formed, formed}
 use Rattle.rf_text.proofs.HeadsRead.{words_append}
 use Rattle.ir_line.proofs.Returns.{ret_is}
-use Rattle.ir_line.proofs.Returns.{ret_is, ret_size, Ends, ret_ends}
+use Rattle.ir_line.proofs.Returns.{ret_size, Ends, ret_ends}
 use Rattle.rf_text.proofs.HeadsTyped.{ret_quiet}
 use Rattle.rf_text.proofs.HeadsFound.{TokenRun, KeptRun, run_kept, run_take, NameAt, name_found, take_less}
 use Rattle.rf_text.proofs.HeadsAgain.{symbol_append, quiet_symbol}

@@ -223,7 +223,7 @@ module _ (names : List (List ℕ)) (other : Bool) where
             returned = ap is_returned is.ret ∙ h.parts.returned;
             named = ap is_name is.name ∙ h.parts.named;
             typed = subst (All IsParam) (sym is.params) (params_are is.base head.params h.parts.typed);
-            behind = subst IsKeptPart (sym is.after) h.parts.behind;
+            at_end = subst IsKeptPart (sym is.after) h.parts.at_end;
           };
           params = subst (All HasPlain) (sym is.params) (params_plain is.base head.params h.written);
           blocks = blocks;

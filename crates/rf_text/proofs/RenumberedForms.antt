@@ -234,7 +234,7 @@ module _ (ids : List Id) where
 
 -- ---- numbers
 
--- an id that is another than the first is found behind it
+-- an id that is another than the first is found after it
 new_rest : (k : ℕ) (x : Id) (xs ys : List Id) → among xs x ≡ false → ((y : Id) → among ys y ≡ true → among xs y ≡ true) → map (new_id k (x ∷ xs)) ys ≡ map (new_id (k + 1) xs) ys
 new_rest k x xs [] h in_xs = refl
 new_rest k x xs (y ∷ ys) h in_xs =

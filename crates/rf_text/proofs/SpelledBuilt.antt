@@ -69,7 +69,7 @@ abbrev pub is_some : Option Block → Bool
 is_some None = false
 is_some (Some block) = true
 
--- an instruction behind the begin of an unnamed block, where none is open
+-- an instruction after the begin of an unnamed block, where none is open
 abbrev pub opening : Bool → List Mark → List Mark
 opening true ms = ms
 opening false ms = Starts None ∷ ms

@@ -30,10 +30,11 @@ use Rattle.ir_types_check.specs.Links as links
 use Rattle.ir_types_check.specs.Links.{value_of, block_of, opd_of, opds_onto, blocks_onto, in_order, linked, lane_of, Choice, choice_before, choices, with_choice, cases_onto, block_at}
 use Rattle.ir_types_check.specs.Blocks.{inst_of}
 use Rattle.ir_types_check.specs.Typed as typed
-use Rattle.ir_types_check.specs.Typed.{same_ty, is_value_of, fits_type, arg_fits, number_of, is_target, case_number, with_number, choice_fits, choices_typed, cases_typed}
+use Rattle.ir_types.specs.Typed.{same_ty}
+use Rattle.ir_types_check.specs.Typed.{is_value_of, fits_type, arg_fits, number_of, is_target, case_number, with_number, choice_fits, choices_typed, cases_typed}
 use Rattle.ir_types_check.proofs.Binding.{bind_ok, ok_is, refused, both, typed_line}
 use Rattle.ir_types_check.proofs.BodyLinks.{Means, block_means, IsOpdOf, AreLinked, links_are, BlockAt, block_there}
-use Rattle.ir_types_check.proofs.BodyTypes.{same_is}
+use Rattle.ir_types.proofs.SameTypes.{same_is}
 use Rattle.ir_types_check.proofs.Handed.{LocalMeaning, value_at, block_at as block_meaning, TopMeaning, LinkedCases}
 use Rattle.ir_types_check.proofs.ReadLinks.{IsFound, AreKnown, IsFineOpd, IsFineInst, inst_found}
 use Rattle.rf_text.specs.Written.{shown_text, shown_block, arg_of, places_from, op_of, line_blocks, result_of, cases_of, first_ty, more_forms, forms_of}
@@ -51,7 +52,7 @@ some_is e = cc
 
 -- ---- cases as lines
 
--- the lines of the cases behind a `switch`, which are the first of these, and its end
+-- the lines of the cases after a `switch`, which are the first of these, and its end
 abbrev pub case_lines : List Choice → List Line
 case_lines [] = []
 case_lines (c ∷ cs) = line.Case c.value c.label ∷ case_lines cs

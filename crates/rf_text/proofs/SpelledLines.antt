@@ -15,7 +15,7 @@ use Rattle.ir_draft.specs.declared.draft.Numbered.{Numbered}
 use Rattle.ir_print.specs.Names.{Names, Named, names_of, named_of, params_named as named_params, blocks_named, locals_from, labels_from, local_of, shown, is_store, is_void}
 use Rattle.ir_types_check.specs.Answers.{well_typed}
 use Rattle.ir_types_check.specs.Scope.{Scope, meaning}
-use Rattle.ir_types_check.specs.Outline.{start, behind, block_here, written, written_name, after_name, after_result, after_param}
+use Rattle.ir_types_check.specs.Outline.{start, past, block_here, written, written_name, after_name, after_result, after_param}
 use Rattle.ir_types_check.specs.Locals.{with_params, with_lines, locals_of}
 use Rattle.ir_types_check.specs.Blocks.{closed, params_from, param_lines, func_of, built_of}
 use Rattle.ir_types_check.specs.Typed.{arg_fits, op_fits, stmt_fits, cases_typed, line_typed, lines_typed, sources_of}
@@ -29,11 +29,11 @@ use Rattle.rf_text.proofs.NamedLocals.{locals}
 use Rattle.rf_text.proofs.NamedPlaces.{id_at, Placed}
 use Rattle.rf_text.proofs.NamedThings.{Thing, inst_thing, params_things, named_things, things_are, scope_from}
 use Rattle.rf_text.proofs.SpelledForms.{IsGoodLine}
-use Rattle.rf_text.proofs.SpelledOrder.{here, is_switch, IsNextResult, Stands, next_behind, open_behind, choosing_behind, InOrder, ParamsInOrder, behind_params, IsGood, IsOrdered, form_of}
+use Rattle.rf_text.proofs.SpelledOrder.{here, is_switch, IsNextResult, Stands, next_after, open_after, choosing_after, InOrder, ParamsInOrder, past_params, IsGood, IsOrdered, form_of}
 use Rattle.rf_text.proofs.SpelledCounts.{stmt_in, label_in, stmts, labels}
 use Rattle.rf_text.proofs.SpelledMarks.{SayMarks, blocks_say, many, starts, marks_named, blocks_are, named_most}
 use Rattle.rf_text.proofs.SpelledBuilt.{Mark, Starts, Does, marks, marks_things, things_same, opening, LineBuilt, AreBuilt, IsBuilt, lines_built}
-use Rattle.rf_text.proofs.SpelledScope.{IsInst, inst_is, thing_of, thing_is, begins, places_behind, places_are, AreNamed, params_named, lines_named, lines_placed, params_placed, shown_again, counted_again, Meant, meant, value_shown, block_shown, Shows, shows_from, shows_behind, counted_param}
+use Rattle.rf_text.proofs.SpelledScope.{IsInst, inst_is, thing_of, thing_is, begins, places_after, places_are, AreNamed, params_named, lines_named, lines_placed, params_placed, shown_again, counted_again, Meant, meant, value_shown, block_shown, Shows, shows_from, shows_after, counted_param}
 use Rattle.rf_text.proofs.SpelledInsts.{pending, AreShown, inst_spelled}
 
 -- ---- lines that are well typed
@@ -57,7 +57,7 @@ lines_are_typed : (tops : Scope TopMeaning) (scope : Scope LocalMeaning) (ret : 
 lines_are_typed tops scope ret edges at [] u e = tt
 lines_are_typed tops scope ret edges at (x ∷ xs) u e =
     bind_ok (line_typed tops scope ret edges at x.line x.form xs) _ u e (λ v was now.
-    (line_is_typed tops scope ret edges at x.line x.form xs v was, lines_are_typed tops scope ret edges (behind at x.form) xs u now))
+    (line_is_typed tops scope ret edges at x.line x.form xs v was, lines_are_typed tops scope ret edges (past at x.form) xs u now))
 
 -- ---- what marks say
 
@@ -79,7 +79,7 @@ module _ (gs : List (List ℕ)) (ns : Names) where
   -- ---- the lines of a body
 
   module _ (tops : Scope TopMeaning) (known : AreKnown tops gs) (scope : Scope LocalMeaning) (base : ℕ) (all : AreShown scope ns base) where
-    -- lines, behind those that are pending, are those of the marks
+    -- lines, after those that are pending, are those of the marks
     record AreSaid (k : ℕ) (c : Bool) (body : List Numbered) (ms : List Mark) : Type 0 where
       rest : List Line
       split : map form_of body ≡ pending c body ++ rest
@@ -88,7 +88,7 @@ module _ (gs : List (List ℕ)) (ns : Names) where
     Rest : List Numbered → Type 0
     Rest xs = (n p k : ℕ) (o c : Bool) (ms : List Mark) → InOrder n o c xs → AreBuilt tops scope base o p xs ms → Shows base ns n k (marks_things ms) → AreSaid k c xs ms
 
-    line_said : (ln n p k : ℕ) (o c : Bool) (form : Line) (xs : List Numbered) (ms : List Mark) → Stands n o c form → InOrder (next_behind n o form) (open_behind o form) (choosing_behind c form) xs → IsGoodLine form → All IsGood xs →
+    line_said : (ln n p k : ℕ) (o c : Bool) (form : Line) (xs : List Numbered) (ms : List Mark) → Stands n o c form → InOrder (next_after n o form) (open_after o form) (choosing_after c form) xs → IsGoodLine form → All IsGood xs →
         IsTypedLine scope form xs → LineBuilt tops scope base o p ln form xs ms (λ o q more. AreBuilt tops scope base o q xs more) → Shows base ns n k (marks_things ms) → Rest xs → AreSaid k c (record { line = ln; form = form } ∷ xs) ms
     unfolding Rest
     line_said ln n p k o c (line.Label name) xs ms stands order good more typed built shows next =
@@ -216,21 +216,21 @@ func_spelled gs tops known n lines head body l b u is e built typed =
     let f : Func = func_of (length lines) head (closed b.blocks b.current) in
     let ns : Names = names_of (func_of (length lines) head (closed b.blocks b.current)) in
     let longer : length (param_lines n lines head.params) ≡ length lines + length head.params = length_param_lines n lines head.params in
-    let place : places_behind 0 head.params ≡ 0 + length head.params = places_are 0 head.params in
-    let made : IsBuilt tops l.scope (length lines) (record { blocks = []; current = None; lines = param_lines n lines head.params }) b false (places_behind 0 head.params) body =
-    lines_built tops l.scope (length lines) (record { blocks = []; current = None; lines = param_lines n lines head.params }) b false (places_behind 0 head.params) body refl (omega (arith, longer, place)) built in
+    let place : places_after 0 head.params ≡ 0 + length head.params = places_are 0 head.params in
+    let made : IsBuilt tops l.scope (length lines) (record { blocks = []; current = None; lines = param_lines n lines head.params }) b false (places_after 0 head.params) body =
+    lines_built tops l.scope (length lines) (record { blocks = []; current = None; lines = param_lines n lines head.params }) b false (places_after 0 head.params) body refl (omega (arith, longer, place)) built in
     let ms : List Mark = made.more in
     let whole : marks (closed b.blocks b.current) ≡ made.more = made.whole in
     let things : List Thing = params_things (params_from (length lines) head.params) (marks_things made.more) in
     bind_ok (with_params n (locals [] 0 0 0 false) head.params) _ l e (λ lp was now.
     let named : AreNamed (length lines) 0 0 0 false [] head.params lp = params_named n (length lines) 0 0 0 false [] lp head.params is.params was in
-    let said : l.scope ≡ named.scope ++ scope_from (behind_params 0 head.params) (places_behind 0 head.params) 0 (marks_things made.more) =
-    lines_named tops l.scope (length lines) (behind_params 0 head.params) (places_behind 0 head.params) 0 false false named.scope l body made.more is.lines is.good made.built
+    let said : l.scope ≡ named.scope ++ scope_from (past_params 0 head.params) (places_after 0 head.params) 0 (marks_things made.more) =
+    lines_named tops l.scope (length lines) (past_params 0 head.params) (places_after 0 head.params) 0 false false named.scope l body made.more is.lines is.good made.built
     (subst (λ (x : LocalNames). with_lines x body ≡ Ok l) (sym named.is) now) in
     let scope : l.scope ≡ scope_from 0 0 0 (params_things (params_from (length lines) head.params) (marks_things made.more)) = said ∙ named.whole (marks_things made.more) in
     let zero_place : length lines ≡ length lines + 0 = omega arith in
     let placed : Placed (length lines) 0 (params_things (params_from (length lines) head.params) (marks_things made.more)) =
-    params_placed (length lines) (length lines) 0 head.params (marks_things made.more) zero_place (lines_placed tops l.scope (length lines) false (places_behind 0 head.params) body made.more is.good made.built) in
+    params_placed (length lines) (length lines) 0 head.params (marks_things made.more) zero_place (lines_placed tops l.scope (length lines) false (places_after 0 head.params) body made.more is.good made.built) in
     let same : named_of (func_of (length lines) head (closed b.blocks b.current)) ≡ named_things (params_things (params_from (length lines) head.params) (marks_things made.more)) =
     sym (things_are (func_of (length lines) head (closed b.blocks b.current)))
     ∙ ap (λ ts. named_things (params_things (params_from (length lines) head.params) ts)) (sym (things_same (closed b.blocks b.current)) ∙ ap marks_things whole) in
@@ -250,9 +250,9 @@ func_spelled gs tops known n lines head body l b u is e built typed =
     let shows : Shows (length lines) ns 0 0 (params_things (params_from (length lines) head.params) (marks_things made.more)) =
     shows_from (length lines) ns 0 0 0 (params_things (params_from (length lines) head.params) (marks_things made.more)) [] [] shown_locals shown_labels refl placed in
     let r : AreSaid gs ns tops known l.scope (length lines) all 0 false body made.more =
-    lines_said gs ns tops known l.scope (length lines) all (behind_params 0 head.params) (places_behind 0 head.params) 0 false false body made.more is.lines is.good (lines_are_typed tops l.scope head.ret (sources_of l body) start body u typed) made.built
-    (shows_behind (length lines) ns 0 (length lines) 0 head.params (marks_things made.more) shows) in
-    let counts : (many made.more ≡ stmts body) × (starts made.more ≤ labels body + stmts body) = lines_of tops l.scope (length lines) false (places_behind 0 head.params) body made.more made.built in
+    lines_said gs ns tops known l.scope (length lines) all (past_params 0 head.params) (places_after 0 head.params) 0 false false body made.more is.lines is.good (lines_are_typed tops l.scope head.ret (sources_of l body) start body u typed) made.built
+    (shows_after (length lines) ns 0 (length lines) 0 head.params (marks_things made.more) shows) in
+    let counts : (many made.more ≡ stmts body) × (starts made.more ≤ labels body + stmts body) = lines_of tops l.scope (length lines) false (places_after 0 head.params) body made.more made.built in
     let few : length (named_of (func_of (length lines) head (closed b.blocks b.current))) ≤ length head.params + (stmts body + (labels body + stmts body)) =
     let own : length (marks_named made.more) ≤ many made.more + starts made.more = named_most made.more in
     let named_blocks : blocks_named (closed b.blocks b.current) ≡ marks_named made.more = sym (blocks_are (closed b.blocks b.current)) ∙ ap marks_named whole in

@@ -48,36 +48,36 @@ Stands n open' choosing (line.Case value label) = choosing ≡ true
 Stands n open' choosing line.CasesEnd = choosing ≡ true
 Stands n open' choosing _ = ⊥
 
--- the next number, and what is open, behind it
+-- the next number, and what is open, after it
 
-abbrev pub next_behind : ℕ → Bool → Line → ℕ
-next_behind n open' (line.Label name) = outline.after_name n name
-next_behind n open' (line.Stmt s) = outline.after_result (here open' n) s.result
-next_behind n open' _ = n
+abbrev pub next_after : ℕ → Bool → Line → ℕ
+next_after n open' (line.Label name) = outline.after_name n name
+next_after n open' (line.Stmt s) = outline.after_result (here open' n) s.result
+next_after n open' _ = n
 
-abbrev pub open_behind : Bool → Line → Bool
-open_behind open' (line.Label name) = true
-open_behind open' (line.Stmt s) = not (is_terminator s.op)
-open_behind open' _ = open'
+abbrev pub open_after : Bool → Line → Bool
+open_after open' (line.Label name) = true
+open_after open' (line.Stmt s) = not (is_terminator s.op)
+open_after open' _ = open'
 
-abbrev pub choosing_behind : Bool → Line → Bool
-choosing_behind choosing (line.Label name) = false
-choosing_behind choosing (line.Stmt s) = is_switch s.op
-choosing_behind choosing line.CasesEnd = false
-choosing_behind choosing _ = choosing
+abbrev pub choosing_after : Bool → Line → Bool
+choosing_after choosing (line.Label name) = false
+choosing_after choosing (line.Stmt s) = is_switch s.op
+choosing_after choosing line.CasesEnd = false
+choosing_after choosing _ = choosing
 
 abbrev pub InOrder : ℕ → Bool → Bool → List Numbered → Type 0
 InOrder n open' choosing [] = choosing ≡ false
-InOrder n open' choosing (x ∷ xs) = Stands n open' choosing x.form × InOrder (next_behind n open' x.form) (open_behind open' x.form) (choosing_behind choosing x.form) xs
+InOrder n open' choosing (x ∷ xs) = Stands n open' choosing x.form × InOrder (next_after n open' x.form) (open_after open' x.form) (choosing_after choosing x.form) xs
 
 abbrev pub ParamsInOrder : ℕ → List Param → Type 0
 ParamsInOrder n [] = Unit {0}
 ParamsInOrder n (p ∷ ps) = IsNextResult n p.name × ParamsInOrder (outline.after_param n p.name) ps
 
--- the next number behind the parameters
-abbrev pub behind_params : ℕ → List Param → ℕ
-behind_params n [] = n
-behind_params n (p ∷ ps) = behind_params (outline.after_param n p.name) ps
+-- the next number after the parameters
+abbrev pub past_params : ℕ → List Param → ℕ
+past_params n [] = n
+past_params n (p ∷ ps) = past_params (outline.after_param n p.name) ps
 
 abbrev pub IsGood : Numbered → Type 0
 IsGood x = IsGoodLine x.form
@@ -85,7 +85,7 @@ IsGood x = IsGoodLine x.form
 pub record IsOrdered (head : Head) (body : List Numbered) : Type 0 where
   pub headed : IsHead head
   pub params : ParamsInOrder 0 head.params
-  pub lines : InOrder (behind_params 0 head.params) false false body
+  pub lines : InOrder (past_params 0 head.params) false false body
   pub good : All IsGood body
 
 abbrev pub form_of : Numbered → Line
@@ -175,7 +175,7 @@ not_open true choosing e c = clash (sym c ∙ e)
 
 record AreTaken (n : ℕ) (ps : List Param) (after : ℕ) : Type 0 where
   each : ParamsInOrder n ps
-  after_is : after ≡ behind_params n ps
+  after_is : after ≡ past_params n ps
 
 record IsTakenName (n : ℕ) (name : Option (List ℕ)) (after : ℕ) : Type 0 where
   next : IsNextResult n name
@@ -193,7 +193,7 @@ params_taken k n (p ∷ ps) after h e =
     let rest : AreTaken m ps after = params_taken k m ps after (All-tail (λ (p : Param). is_written p.name ≡ true) p ps h) now in
     record {
       each = (one.next, subst (λ x. ParamsInOrder x ps) one.after_is rest.each);
-      after_is = rest.after_is ∙ ap (λ x. behind_params x ps) one.after_is;
+      after_is = rest.after_is ∙ ap (λ x. past_params x ps) one.after_is;
     })
 
 -- ---- results
@@ -227,11 +227,11 @@ record AreOrdered (n : ℕ) (open' choosing : Bool) (xs : List Numbered) : Type 
   lines : InOrder n open' choosing xs
   good : All IsGood xs
 
--- with one more line in front, behind which q is the position
-grown : (p q : Place) (n : ℕ) (open' choosing : Bool) (form : Line) (xs : List Numbered) → IsGoodLine form → Stands p.next open' choosing form → q.next ≡ next_behind p.next open' form →
-    AreOrdered q.next (open_behind open' form) (choosing_behind choosing form) xs → AreOrdered p.next open' choosing (record { line = n; form = form } ∷ xs)
+-- with one more line in front, after which q is the position
+grown : (p q : Place) (n : ℕ) (open' choosing : Bool) (form : Line) (xs : List Numbered) → IsGoodLine form → Stands p.next open' choosing form → q.next ≡ next_after p.next open' form →
+    AreOrdered q.next (open_after open' form) (choosing_after choosing form) xs → AreOrdered p.next open' choosing (record { line = n; form = form } ∷ xs)
 grown p q n open' choosing form xs g s e r = record {
-  lines = (s, subst (λ x. InOrder x (open_behind open' form) (choosing_behind choosing form) xs) e r.lines);
+  lines = (s, subst (λ x. InOrder x (open_after open' form) (choosing_after choosing form) xs) e r.lines);
   good = All-cons IsGood (record { line = n; form = form }) xs g r.good;
 }
 

@@ -18,7 +18,7 @@ use Rattle.ir_forms.proofs.Steps.{bytes_is}
 use Rattle.ir_print.specs.declared.names.Local.{Local}
 use Rattle.ir_print.specs.Names.{Names, locals_from, labels_from, shown, counted, same_id, last_of, local_of, is_store, is_void}
 use Rattle.ir_types_check.specs.Scope.{Scope, meaning, define, of_function}
-use Rattle.ir_types_check.specs.Outline.{is_number, written_name, written, after_name, after_result, after_param, param_name, opened, behind_param, behind_label, behind_inst}
+use Rattle.ir_types_check.specs.Outline.{is_number, written_name, written, after_name, after_result, after_param, param_name, opened, past_param, after_label, after_inst}
 use Rattle.ir_types_check.specs.Links.{linked, cases_of, op_of}
 use Rattle.ir_types_check.specs.Locals.{with_name, with_param, with_params, with_label, with_opened, with_result, with_stmt, with_line, with_lines}
 use Rattle.ir_types_check.specs.Blocks.{inst_of, params_from}
@@ -31,7 +31,7 @@ use Rattle.rf_text.proofs.NamedLocals.{locals}
 use Rattle.rf_text.proofs.ReadableNames.{store_kept}
 use Rattle.rf_text.proofs.SpelledForms.{HasResult, IsGoodStmt, IsGoodLine}
 use Rattle.rf_text.proofs.SpelledNumbers.{IsNext}
-use Rattle.rf_text.proofs.SpelledOrder.{here, is_switch, IsNextResult, Stands, next_behind, open_behind, choosing_behind, InOrder, ParamsInOrder, behind_params, IsGood}
+use Rattle.rf_text.proofs.SpelledOrder.{here, is_switch, IsNextResult, Stands, next_after, open_after, choosing_after, InOrder, ParamsInOrder, past_params, IsGood}
 use Rattle.rf_text.proofs.SpelledBuilt.{Mark, Does, opening, marks_things, LineBuilt, AreBuilt}
 
 nothing : {A P : Type 0} {y : A} → None ≡ Some y → P
@@ -124,24 +124,24 @@ pub counted_param : (n : ℕ) (name : Option (List ℕ)) → counted n (written 
 counted_param n None = refl
 counted_param n (Some name) = counted_again n name
 
--- the place behind parameters
-abbrev pub places_behind : ℕ → List Param → ℕ
-places_behind p [] = p
-places_behind p (x ∷ ps) = places_behind (p + 1) ps
+-- the place after parameters
+abbrev pub places_after : ℕ → List Param → ℕ
+places_after p [] = p
+places_after p (x ∷ ps) = places_after (p + 1) ps
 
-pub places_are : (p : ℕ) (ps : List Param) → places_behind p ps ≡ p + length ps
+pub places_are : (p : ℕ) (ps : List Param) → places_after p ps ≡ p + length ps
 places_are p [] = omega arith
-places_are p (x ∷ ps) = let more : places_behind (p + 1) ps ≡ p + 1 + length ps = places_are (p + 1) ps in omega (arith, more)
+places_are p (x ∷ ps) = let more : places_after (p + 1) ps ≡ p + 1 + length ps = places_are (p + 1) ps in omega (arith, more)
 
 param_is : (ln n p b : ℕ) (o : Bool) (done : Scope LocalMeaning) (m : LocalNames) (prm : Param) → with_param ln (locals done n p b o) prm ≡ Ok m →
     locals (done ++ (param_name n prm.name, value_at p prm.ty) ∷ []) (after_param n prm.name) (p + 1) b o ≡ m
-unfolding with_param behind_param
+unfolding with_param past_param
 param_is ln n p b o done m prm e = with_name_is ln (locals done n p b o) m (param_name n prm.name) (value_at p prm.ty) _ e
 
 pub record AreNamed (k n p b : ℕ) (o : Bool) (done : Scope LocalMeaning) (ps : List Param) (after : LocalNames) : Type 0 where
   pub scope : Scope LocalMeaning
-  pub is : locals scope (behind_params n ps) (places_behind p ps) b o ≡ after
-  pub whole : (rest : List Thing) → scope ++ scope_from (behind_params n ps) (places_behind p ps) b rest ≡ done ++ scope_from n p b (params_things (params_from k ps) rest)
+  pub is : locals scope (past_params n ps) (places_after p ps) b o ≡ after
+  pub whole : (rest : List Thing) → scope ++ scope_from (past_params n ps) (places_after p ps) b rest ≡ done ++ scope_from n p b (params_things (params_from k ps) rest)
 
 pub params_named : (ln k n p b : ℕ) (o : Bool) (done : Scope LocalMeaning) (after : LocalNames) (ps : List Param) → ParamsInOrder n ps → with_params ln (locals done n p b o) ps ≡ Ok after → AreNamed k n p b o done ps after
 params_named ln k n p b o done after [] order e = record { scope = done; is = ok_is e; whole = λ rest. refl }
@@ -162,7 +162,7 @@ params_named ln k n p b o done after (prm ∷ ps) order e =
 
 -- lines
 
--- what an instruction names where a block is open or not, and the number of the next block behind
+-- what an instruction names where a block is open or not, and the number of the next block after
 abbrev pub begun : Bool → ℕ → ℕ → Scope LocalMeaning
 begun true n b = []
 begun false n b = (decimal n, block_at b) ∷ []
@@ -182,7 +182,7 @@ opened_is ln n p b false done m e = with_name_is ln (locals done n p b false) m 
 
 result_is : (ln n p b : ℕ) (done : Scope LocalMeaning) (m : LocalNames) (s : Stmt) (r : Option (List ℕ)) → s.result ≡ r → with_result ln (locals done n p b true) s r ≡ Ok m →
     locals (done ++ given p s.ty r) (after_result n r) (p + 1) b (not (is_terminator s.op)) ≡ m
-unfolding behind_inst
+unfolding after_inst
 result_is ln n p b done m s None f e =
     ap (λ x. locals x n (p + 1) b (not (is_terminator s.op))) (append-nil done) ∙ ap (λ x. locals done (after_result n x) (p + 1) b (not (is_terminator s.op))) (sym f) ∙ ok_is e
 result_is ln n p b done m s (Some name) f e =
@@ -190,7 +190,7 @@ result_is ln n p b done m s (Some name) f e =
     ∙ with_name_is ln (locals done n p b true) m name (value_at p s.ty) _ e
 
 label_is : (ln n p b : ℕ) (o : Bool) (done : Scope LocalMeaning) (m : LocalNames) (name : List ℕ) → with_label ln (locals done n p b o) name ≡ Ok m → locals (done ++ (name, block_at b) ∷ []) (after_name n name) p (b + 1) true ≡ m
-unfolding with_label behind_label
+unfolding with_label after_label
 label_is ln n p b o done m name e = with_name_is ln (locals done n p b o) m name (block_at b) _ e
 
 pub opening_scope : (o : Bool) (n p b : ℕ) (ms : List Mark) → scope_from n p b (marks_things (opening o ms)) ≡ begun o n b ++ scope_from (here o n) p (begins o b) (marks_things ms)
@@ -209,7 +209,7 @@ module _ (tops : Scope TopMeaning) (scope : Scope LocalMeaning) (base : ℕ) whe
   Rest after xs = (n p b : ℕ) (o c : Bool) (done : Scope LocalMeaning) (ms : List Mark) → InOrder n o c xs → AreBuilt tops scope base o p xs ms → with_lines (locals done n p b o) xs ≡ Ok after →
       after.scope ≡ done ++ scope_from n p b (marks_things ms)
 
-  line_named : (ln n p b : ℕ) (o c : Bool) (done : Scope LocalMeaning) (m after : LocalNames) (form : Line) (xs : List Numbered) (ms : List Mark) → Stands n o c form → InOrder (next_behind n o form) (open_behind o form) (choosing_behind c form) xs →
+  line_named : (ln n p b : ℕ) (o c : Bool) (done : Scope LocalMeaning) (m after : LocalNames) (form : Line) (xs : List Numbered) (ms : List Mark) → Stands n o c form → InOrder (next_after n o form) (open_after o form) (choosing_after c form) xs →
       IsGoodLine form → LineBuilt tops scope base o p ln form xs ms (λ o q more. AreBuilt tops scope base o q xs more) → with_line ln (locals done n p b o) form ≡ Ok m → with_lines m xs ≡ Ok after → Rest after xs →
       after.scope ≡ done ++ scope_from n p b (marks_things ms)
   unfolding with_stmt Rest
@@ -229,16 +229,16 @@ module _ (tops : Scope TopMeaning) (scope : Scope LocalMeaning) (base : ℕ) whe
       let first : locals (done ++ begun o n b) (here o n) p (begins o b) true ≡ x = opened_is ln n p b o done x was in
       let is : locals ((done ++ begun o n b) ++ given p s.ty s.result) (after_result (here o n) s.result) (p + 1) (begins o b) (not (is_terminator s.op)) ≡ m =
       result_is ln (here o n) p (begins o b) (done ++ begun o n b) m s s.result refl (subst (λ (y : LocalNames). with_result ln y s s.result ≡ Ok m) (sym first) then') in
-      let behind : Scope LocalMeaning = scope_from (after_result (here o n) s.result) (p + 1) (begins o b) (marks_things more) in
-      let said : after.scope ≡ ((done ++ begun o n b) ++ given p s.ty s.result) ++ behind =
+      let past : Scope LocalMeaning = scope_from (after_result (here o n) s.result) (p + 1) (begins o b) (marks_things more) in
+      let said : after.scope ≡ ((done ++ begun o n b) ++ given p s.ty s.result) ++ past =
       rest (after_result (here o n) s.result) (p + 1) (begins o b) (not (is_terminator s.op)) (is_switch s.op) ((done ++ begun o n b) ++ given p s.ty s.result) more order built.4
       (subst (λ (y : LocalNames). with_lines y xs ≡ Ok after) (sym is) now) in
       let thing : inst_thing (is_void inst.ty) (is_store inst.op) inst ≡ thing_of base p s.ty s.result = thing_is tops scope base p ln s xs inst good (inst_is tops scope base (base + p) ln s xs inst built.2) in
-      let own : scope_from n p b (marks_things ms) ≡ begun o n b ++ (given p s.ty s.result ++ behind) =
+      let own : scope_from n p b (marks_things ms) ≡ begun o n b ++ (given p s.ty s.result ++ past) =
       ap (λ ys. scope_from n p b (marks_things ys)) built.3 ∙ opening_scope o n p b (Does inst ∷ more)
       ∙ ap (λ t. begun o n b ++ scope_from (here o n) p (begins o b) (t ∷ marks_things more)) thing
       ∙ ap (λ ys. begun o n b ++ ys) (thing_scope base (here o n) p (begins o b) s.ty s.result (marks_things more) stands.1) in
-      said ∙ append_assoc (done ++ begun o n b) (given p s.ty s.result) behind ∙ append_assoc done (begun o n b) (given p s.ty s.result ++ behind) ∙ ap (λ ys. done ++ ys) (sym own))
+      said ∙ append_assoc (done ++ begun o n b) (given p s.ty s.result) past ∙ append_assoc done (begun o n b) (given p s.ty s.result ++ past) ∙ ap (λ ys. done ++ ys) (sym own))
   line_named ln n p b o c done m after (line.Case value label) xs ms stands order good built e now rest = rest n p b o c done ms order built (subst (λ (x : LocalNames). with_lines x xs ≡ Ok after) (sym (ok_is e)) now)
   line_named ln n p b o c done m after line.CasesEnd xs ms stands order good built e now rest = rest n p b o false done ms order built (subst (λ (x : LocalNames). with_lines x xs ≡ Ok after) (sym (ok_is e)) now)
   line_named ln n p b o c done m after line.Empty xs ms stands order good built e now rest = absurd stands
@@ -275,9 +275,9 @@ module _ (tops : Scope TopMeaning) (scope : Scope LocalMeaning) (base : ℕ) whe
   line_placed ln p o (line.Stmt s) xs ms good built rest =
       let inst : Inst = built.0 in
       let thing : inst_thing (is_void inst.ty) (is_store inst.op) inst ≡ thing_of base p s.ty s.result = thing_is tops scope base p ln s xs inst good (inst_is tops scope base (base + p) ln s xs inst built.2) in
-      let behind : Placed base (p + 1) (marks_things built.1) = rest (not (is_terminator s.op)) (p + 1) built.1 built.4 in
+      let past : Placed base (p + 1) (marks_things built.1) = rest (not (is_terminator s.op)) (p + 1) built.1 built.4 in
       subst (λ ys. Placed base p (marks_things ys)) (sym built.3)
-      (opening_placed o p (Does inst ∷ built.1) (subst (λ t. Placed base p (t ∷ marks_things built.1)) (sym thing) (thing_placed p s.ty s.result (marks_things built.1) behind)))
+      (opening_placed o p (Does inst ∷ built.1) (subst (λ t. Placed base p (t ∷ marks_things built.1)) (sym thing) (thing_placed p s.ty s.result (marks_things built.1) past)))
   line_placed ln p o (line.Case value label) xs ms good built rest = rest o p ms built
   line_placed ln p o line.CasesEnd xs ms good built rest = rest o p ms built
   line_placed ln p o line.Empty xs ms good built rest = rest o p ms built
@@ -290,7 +290,7 @@ module _ (tops : Scope TopMeaning) (scope : Scope LocalMeaning) (base : ℕ) whe
   lines_placed o p [] ms good built = subst (λ ys. Placed base p (marks_things ys)) (sym built) tt
   lines_placed o p (x ∷ xs) ms good built = line_placed x.line p o x.form xs ms (All-head IsGood x xs good) built (λ o' p' more built'. lines_placed o' p' xs more (All-tail IsGood x xs good) built')
 
-pub params_placed : (base k p : ℕ) (ps : List Param) (rest : List Thing) → k ≡ base + p → Placed base (places_behind p ps) rest → Placed base p (params_things (params_from k ps) rest)
+pub params_placed : (base k p : ℕ) (ps : List Param) (rest : List Thing) → k ≡ base + p → Placed base (places_after p ps) rest → Placed base p (params_things (params_from k ps) rest)
 params_placed base k p [] rest e h = h
 params_placed base k p (x ∷ ps) rest e h = (ap (λ (j : ℕ). record { region = 0; k = j }) e, params_placed base (k + 1) (p + 1) ps rest (omega (arith, e)) h)
 
@@ -405,7 +405,7 @@ module _ (base : ℕ) (ns : Names) where
     shows_from (counted n name) p (b + 1) ts ls (bs ++ shown n name ∷ []) locals (labels ∙ sym (append_assoc bs (shown n name ∷ []) (labels_from (counted n name) (named_things ts)))) (push_length bs (shown n name) b many) placed,
   )
 
-  -- behind the parameters
-  pub shows_behind : (n k b : ℕ) (ps : List Param) (rest : List Thing) → Shows n b (params_things (params_from k ps) rest) → Shows (behind_params n ps) b rest
-  shows_behind n k b [] rest h = h
-  shows_behind n k b (p ∷ ps) rest h = shows_behind (after_param n p.name) (k + 1) b ps rest (subst (λ x. Shows x b (params_things (params_from (k + 1) ps) rest)) (counted_param n p.name) h.1)
+  -- after the parameters
+  pub shows_after : (n k b : ℕ) (ps : List Param) (rest : List Thing) → Shows n b (params_things (params_from k ps) rest) → Shows (past_params n ps) b rest
+  shows_after n k b [] rest h = h
+  shows_after n k b (p ∷ ps) rest h = shows_after (after_param n p.name) (k + 1) b ps rest (subst (λ x. Shows x b (params_things (params_from (k + 1) ps) rest)) (counted_param n p.name) h.1)

@@ -35,7 +35,7 @@ use Rattle.rf_text.proofs.NamedThings.{Thing, params_things}
 use Rattle.rf_text.proofs.SpelledBuilt.{Mark, Starts, Does, insts_marks, marks, marks_things, so_far, is_some, opening, with_marks, with_open, label_marks, label_open, label_lines}
 use Rattle.rf_text.proofs.SpelledMarks.{many, SayMarks, Ends, HasFirst, has_first}
 use Rattle.rf_text.proofs.SpelledOrder.{form_of}
-use Rattle.rf_text.proofs.SpellingLocals.{IsSilent, AreSilent, Behind, more_behind}
+use Rattle.rf_text.proofs.SpellingLocals.{IsSilent, AreSilent, After, more_after}
 
 clash : {P : Type 0} → true ≡ false → P
 clash e = cc
@@ -137,7 +137,7 @@ module _ (tops : Scope TopMeaning) (scope : Scope LocalMeaning) (base : ℕ) (ns
   unfolding with_statement
   does_made i ms rest body n p b o st e says opens count known read next =
       let f : HasFirst (line.Stmt (stmt_of ns gs i)) (more_forms ns i.opds i.op ++ rest) body = has_first _ _ body e in
-      let r : Behind rest f.rest = more_behind ns i.opds i.op rest f.rest f.forms in
+      let r : After rest f.rest = more_after ns i.opds i.op rest f.rest f.forms in
       let s : Stepped tops scope base ns gs n p b (is_void i.ty) (is_store i.op) i (marks_things ms) = stepped tops scope base ns gs n p b (is_void i.ty) (is_store i.op) i (marks_things ms) read.silent known in
       let id : i.id ≡ record { region = 0; k = length st.lines } = s.id ∙ ap (λ (k : ℕ). record { region = 0; k = k }) (sym count) in
       let made : inst_of tops scope base (length st.lines) f.n (stmt_of ns gs i) f.rest ≡ Ok i = inst_said i (length st.lines) f.n rest f.rest f.forms id s.name read.found in

@@ -104,7 +104,7 @@ has_names m f base ln head body formed is header blocks =
     let s : IsSaid base (scope_of f) is.once (names_of f) (starts (marks f.blocks)) (locals_of ln head body) = locals_said f m.globals base (scope_of f) is.once ln head body header (blocks_marked m.globals (names_of f) blocks) ends refl is.known in
     (s.end, s.said_is, s.whole, s.count ∙ all_begin f.blocks)
 
--- what is known behind the parameters
+-- what is known after the parameters
 params_known : (base : ℕ) (scope : Scope LocalMeaning) (ns : Names) (n p b q : ℕ) (ps : List Param) (rest : List Thing) → q ≡ p + length ps → Known base scope ns n p b (params_things ps rest) → (k : ℕ) × Known base scope ns k q b rest
 params_known base scope ns n p b q [] rest e known = let same : p ≡ q = omega (arith, e) in (n, subst (λ x. Known base scope ns n x b rest) same known)
 params_known base scope ns n p b q (prm ∷ ps) rest e known = params_known base scope ns (counted n prm.name) (p + 1) b q ps rest (omega (arith, e)) known.1
@@ -135,13 +135,13 @@ function_resolves tops m f done ln head body globals formed plain is header bloc
     let locals : HasNames f (locals_of ln head body) = has_names m f (length done.lines) ln head body formed is header blocks in
     let read : AreRead tops (scope_of f) (length done.lines) (names_of f) m.globals (marks f.blocks) =
     blocks_read tops (scope_of f) (length done.lines) (names_of f) m.globals f.blocks (blocks_are_read m f tops (scope_of f) (length done.lines) globals is.known formed plain) in
-    let behind : (k : ℕ) × Known (length done.lines) (scope_of f) (names_of f) k (length f.params) 0 (blocks_things f.blocks) =
+    let past : (k : ℕ) × Known (length done.lines) (scope_of f) (names_of f) k (length f.params) 0 (blocks_things f.blocks) =
     params_known (length done.lines) (scope_of f) (names_of f) 0 0 0 (length f.params) f.params (blocks_things f.blocks) (omega arith) is.known in
     let count : length (param_lines ln done.lines head.params) ≡ length done.lines + length head.params = length_param_lines ln done.lines head.params in
     let same : length head.params ≡ length f.params = zip_length (names_of f) f.params head.params header.params in
     let made : IsMade tops (scope_of f) (length done.lines) (names_of f) m.globals (begun ln done.lines head) (length f.params) (marks f.blocks) (built_of tops (scope_of f) ln done.lines head body) =
-    marks_made tops (scope_of f) (length done.lines) (names_of f) m.globals (marks f.blocks) body behind.0 (length f.params) 0 false (begun ln done.lines head) (blocks_marked m.globals (names_of f) blocks) (blocks_end f.blocks (all_end m f formed)) refl
-    (omega (arith, count, same)) (subst (Known (length done.lines) (scope_of f) (names_of f) behind.0 (length f.params) 0) (sym (things_same f.blocks)) behind.1) read in
+    marks_made tops (scope_of f) (length done.lines) (names_of f) m.globals (marks f.blocks) body past.0 (length f.params) 0 false (begun ln done.lines head) (blocks_marked m.globals (names_of f) blocks) (blocks_end f.blocks (all_end m f formed)) refl
+    (omega (arith, count, same)) (subst (Known (length done.lines) (scope_of f) (names_of f) past.0 (length f.params) 0) (sym (things_same f.blocks)) past.1) read in
     let own : closed made.end.blocks made.end.current ≡ f.blocks = marks_once (closed made.end.blocks made.end.current) f.blocks made.whole in
     let func : func_of (length done.lines) head (closed made.end.blocks made.end.current) ≡ f =
     same_func f head.before head.ret head.name (params_from (length done.lines) head.params) head.after (closed made.end.blocks made.end.current) header.before header.ret header.name
@@ -158,7 +158,7 @@ function_resolves tops m f done ln head body globals formed plain is header bloc
 
 -- ---- all functions
 
--- what is resolved of items, behind others
+-- what is resolved of items, after others
 record AreResolved (done : DoneSoFar) (is : List Item) (said : Result DoneSoFar ResolveRefusal) : Type 0 where
   lines : List ℕ
   said_is : said ≡ Ok (record { items = done.items ++ is; lines = lines })

@@ -20,7 +20,7 @@ use Rattle.ir_print.specs.Names.{Names, names_of, shown, counted, is_store, is_v
 use Rattle.ir_types_check.specs.declared.refusal.ResolveRefusal.{ResolveRefusal}
 use Rattle.ir_types_check.specs.Answers.{◌>>=◌}
 use Rattle.ir_types_check.specs.Scope.{Scope}
-use Rattle.ir_types_check.specs.Outline.{after_name, after_param, param_name, opened, behind_param}
+use Rattle.ir_types_check.specs.Outline.{after_name, after_param, param_name, opened, past_param}
 use Rattle.ir_types_check.specs.Locals.{with_name, with_param, with_params, with_label, with_opened, with_stmt, with_line, with_lines, locals_of}
 use Rattle.ir_types_check.proofs.Handed.{LocalMeaning, value_at, block_at, LinePlace, LocalNames}
 use Rattle.rf_text.specs.Spelled.{MayWrite, AsShown, LeftOut, IsWrittenParam, IsHeaderOf}
@@ -42,7 +42,7 @@ no_line e = cc
 
 -- ---- lines that are passed over
 
--- the lines of a `switch` behind its first
+-- the lines of a `switch` after its first
 abbrev pub IsSilent : Line → Type 0
 IsSilent (line.Case value label) = Unit {0}
 IsSilent line.CasesEnd = Unit {0}
@@ -52,8 +52,8 @@ abbrev pub AreSilent : List Numbered → Type 0
 AreSilent [] = Unit {0}
 AreSilent (x ∷ xs) = IsSilent x.form × AreSilent xs
 
--- the lines of a body behind some that are passed over
-pub record Behind (rest : List Line) (xs : List Numbered) : Type 0 where
+-- the lines of a body after some that are passed over
+pub record After (rest : List Line) (xs : List Numbered) : Type 0 where
   pub front : List Numbered
   pub ys : List Numbered
   pub whole : xs ≡ front ++ ys
@@ -61,26 +61,26 @@ pub record Behind (rest : List Line) (xs : List Numbered) : Type 0 where
   pub forms : map form_of ys ≡ rest
 
 -- with one more in front
-behind_one : (f : Line) (rest : List Line) (xs zs : List Numbered) (n : ℕ) → IsSilent f → xs ≡ record { line = n; form = f } ∷ zs → Behind rest zs → Behind rest xs
-behind_one f rest xs zs n s e b = record { front = record { line = n; form = f } ∷ b.front; ys = b.ys; whole = e ∙ ap (λ ws. record { line = n; form = f } ∷ ws) b.whole; silent = (s, b.silent); forms = b.forms }
+after_one : (f : Line) (rest : List Line) (xs zs : List Numbered) (n : ℕ) → IsSilent f → xs ≡ record { line = n; form = f } ∷ zs → After rest zs → After rest xs
+after_one f rest xs zs n s e b = record { front = record { line = n; form = f } ∷ b.front; ys = b.ys; whole = e ∙ ap (λ ws. record { line = n; form = f } ∷ ws) b.whole; silent = (s, b.silent); forms = b.forms }
 
-none_behind : (rest : List Line) (xs : List Numbered) → map form_of xs ≡ rest → Behind rest xs
-none_behind rest xs e = record { front = []; ys = xs; whole = refl; silent = tt; forms = e }
+none_after : (rest : List Line) (xs : List Numbered) → map form_of xs ≡ rest → After rest xs
+none_after rest xs e = record { front = []; ys = xs; whole = refl; silent = tt; forms = e }
 
-cases_behind : (ns : Names) (ty : Ty) (cases : List (Option ℕ)) (to : List ℕ) (rest : List Line) (xs : List Numbered) → map form_of xs ≡ cases_of ns ty cases to ++ (line.CasesEnd ∷ rest) → Behind rest xs
-cases_behind ns ty [] to rest xs e =
+cases_after : (ns : Names) (ty : Ty) (cases : List (Option ℕ)) (to : List ℕ) (rest : List Line) (xs : List Numbered) → map form_of xs ≡ cases_of ns ty cases to ++ (line.CasesEnd ∷ rest) → After rest xs
+cases_after ns ty [] to rest xs e =
     let f : HasFirst line.CasesEnd rest xs = has_first line.CasesEnd rest xs e in
-    behind_one line.CasesEnd rest xs f.rest f.n tt f.whole (none_behind rest f.rest f.forms)
-cases_behind ns ty (c ∷ cs) [] rest xs e =
+    after_one line.CasesEnd rest xs f.rest f.n tt f.whole (none_after rest f.rest f.forms)
+cases_after ns ty (c ∷ cs) [] rest xs e =
     let f : HasFirst line.CasesEnd rest xs = has_first line.CasesEnd rest xs e in
-    behind_one line.CasesEnd rest xs f.rest f.n tt f.whole (none_behind rest f.rest f.forms)
-cases_behind ns ty (c ∷ cs) (b ∷ bs) rest xs e =
+    after_one line.CasesEnd rest xs f.rest f.n tt f.whole (none_after rest f.rest f.forms)
+cases_after ns ty (c ∷ cs) (b ∷ bs) rest xs e =
     let f : HasFirst (line.Case (record { ty = ty; lanes = c ∷ [] }) (shown_block ns b)) (cases_of ns ty cs bs ++ (line.CasesEnd ∷ rest)) xs = has_first _ _ xs e in
-    behind_one (line.Case (record { ty = ty; lanes = c ∷ [] }) (shown_block ns b)) rest xs f.rest f.n tt f.whole (cases_behind ns ty cs bs rest f.rest f.forms)
+    after_one (line.Case (record { ty = ty; lanes = c ∷ [] }) (shown_block ns b)) rest xs f.rest f.n tt f.whole (cases_after ns ty cs bs rest f.rest f.forms)
 
-pub more_behind : (ns : Names) (os : List Opd) (op : Op) (rest : List Line) (xs : List Numbered) → map form_of xs ≡ more_forms ns os op ++ rest → Behind rest xs
-more_behind ns os (Switch other cases to) rest xs e = cases_behind ns (first_ty ns os) cases to rest xs (e ∙ append_assoc (cases_of ns (first_ty ns os) cases to) (line.CasesEnd ∷ []) rest)
-more_behind ns os op rest xs e = none_behind rest xs e
+pub more_after : (ns : Names) (os : List Opd) (op : Op) (rest : List Line) (xs : List Numbered) → map form_of xs ≡ more_forms ns os op ++ rest → After rest xs
+more_after ns os (Switch other cases to) rest xs e = cases_after ns (first_ty ns os) cases to rest xs (e ∙ append_assoc (cases_of ns (first_ty ns os) cases to) (line.CasesEnd ∷ []) rest)
+more_after ns os op rest xs e = none_after rest xs e
 
 silent_line : (n : ℕ) (l : LocalNames) (f : Line) → IsSilent f → with_line n l f ≡ Ok l
 silent_line n l (line.Case value label) s = refl
@@ -108,7 +108,7 @@ at_place n p b o = record { next = n; place = p; blocks = b; is_open = o }
 module _ (base : ℕ) (scope : Scope LocalMeaning) (once : Once scope) (ns : Names) where
   param_read : (ln n p b : ℕ) (o : Bool) (done rest : Scope LocalMeaning) (prm q : Param) → IsWrittenParam ns prm q → IsValue base scope ns n p prm.id prm.ty prm.name → scope ≡ done ++ (shown n prm.name, value_at p prm.ty) ∷ rest →
       with_param ln (locals done n p b o) q ≡ Ok (locals (done ++ (shown n prm.name, value_at p prm.ty) ∷ []) (counted n prm.name) (p + 1) b o)
-  unfolding with_param behind_param
+  unfolding with_param past_param
   param_read ln n p b o done rest prm q w is whole =
       let m : (param_name n q.name ≡ shown n prm.name) × (after_param n q.name ≡ counted n prm.name) = may_be w.name n (ap shown_text is.shows) is.once_more in
       ap (λ x. with_name ln (locals done n p b o) x (value_at p q.ty) (at_place (after_param n q.name) (p + 1) b o)) m.0
@@ -122,14 +122,14 @@ module _ (base : ℕ) (scope : Scope LocalMeaning) (once : Once scope) (ns : Nam
   params_read ln n p b o done [] (q ∷ qs) rest zip whole known = absurd zip
   params_read ln n p b o done (prm ∷ ps) [] rest zip whole known = absurd zip
   params_read ln n p b o done (prm ∷ ps) (q ∷ qs) rest zip whole known =
-      let behind : Scope LocalMeaning = scope_from (counted n prm.name) (p + 1) b (params_things ps rest) in
+      let after : Scope LocalMeaning = scope_from (counted n prm.name) (p + 1) b (params_things ps rest) in
       let r : Reached base scope once ns rest b o (with_params ln (locals (done ++ (shown n prm.name, value_at p prm.ty) ∷ []) (counted n prm.name) (p + 1) b o) qs) =
-      params_read ln (counted n prm.name) (p + 1) b o (done ++ (shown n prm.name, value_at p prm.ty) ∷ []) ps qs rest zip.1 (moved scope done (shown n prm.name, value_at p prm.ty) behind whole) known.1 in
+      params_read ln (counted n prm.name) (p + 1) b o (done ++ (shown n prm.name, value_at p prm.ty) ∷ []) ps qs rest zip.1 (moved scope done (shown n prm.name, value_at p prm.ty) after whole) known.1 in
       record {
         done = r.done;
         next = r.next;
         place = r.place;
-        said_is = ap (λ (x : Result LocalNames ResolveRefusal). x >>= λ l. with_params ln l qs) (param_read ln n p b o done behind prm q zip.0 known.0 whole) ∙ r.said_is;
+        said_is = ap (λ (x : Result LocalNames ResolveRefusal). x >>= λ l. with_params ln l qs) (param_read ln n p b o done after prm q zip.0 known.0 whole) ∙ r.said_is;
         whole = r.whole;
         known = r.known;
       }
@@ -168,7 +168,7 @@ module _ (base : ℕ) (scope : Scope LocalMeaning) (once : Once scope) (ns : Nam
     marks_said [] [] n p b o done h ends whole known = record { end = locals done n p b o; said_is = refl; whole = sym (append-nil done) ∙ sym whole; count = omega arith }
     marks_said [] (x ∷ xs) n p b o done h ends whole known = no_line (sym h)
     marks_said (Starts name ∷ ms) body n p b o done h ends whole known =
-        let behind : Scope LocalMeaning = scope_from (counted n name) p (b + 1) (marks_things ms) in
+        let after : Scope LocalMeaning = scope_from (counted n name) p (b + 1) (marks_things ms) in
         let one_more : b + 1 + starts ms ≡ b + starts (Starts name ∷ ms) = omega arith in
         let next : (rest : List Numbered) → SayMarks gs ns (b + 1) ms (map form_of rest) → IsSaid (b + 1 + starts ms) (with_lines (locals (done ++ (shown n name, block_at b) ∷ []) (counted n name) p (b + 1) true) rest) =
         λ rest says. marks_said ms rest (counted n name) p (b + 1) true (done ++ (shown n name, block_at b) ∷ []) says ends.1 (moved scope done (shown n name, block_at b) (scope_from (counted n name) p (b + 1) (marks_things ms)) whole) known.1 in
@@ -179,22 +179,22 @@ module _ (base : ℕ) (scope : Scope LocalMeaning) (once : Once scope) (ns : Nam
               said_by
               (ap (with_lines (locals done n p b o)) f.whole
               ∙ ap (λ x. with_label f.n (locals done n p b o) x >>= λ l. with_lines l f.rest) text
-              ∙ ap (λ (r : Result LocalNames ResolveRefusal). r >>= λ l. with_lines l f.rest) (label_read base scope once ns gs f.n n p b o done behind name known.0.once_more whole))
+              ∙ ap (λ (r : Result LocalNames ResolveRefusal). r >>= λ l. with_lines l f.rest) (label_read base scope once ns gs f.n n p b o done after name known.0.once_more whole))
               one_more
               (next f.rest (subst (SayMarks gs ns (b + 1) ms) (sym f.forms) h.2))
           | inr e ↦
               let says : SayMarks gs ns (b + 1) ms (map form_of body) = subst (SayMarks gs ns (b + 1) ms) (sym e.1) h.2 in
-              let whole' : scope ≡ done ++ (decimal n, block_at b) ∷ behind = whole ∙ ap (λ x. done ++ (shown n x, block_at b) ∷ behind) e.0 in
+              let whole' : scope ≡ done ++ (decimal n, block_at b) ∷ after = whole ∙ ap (λ x. done ++ (shown n x, block_at b) ∷ after) e.0 in
               said_by
               (ap (λ x. with_lines (locals done n p b x) body) ends.0
-              ∙ unlabelled n p b done behind ms body says ends.1 whole'
+              ∙ unlabelled n p b done after ms body says ends.1 whole'
               ∙ sym (ap (λ x. with_lines (locals (done ++ (shown n x, block_at b) ∷ []) (counted n x) p (b + 1) true) body) e.0))
               one_more
               (next body says)
         ]
     marks_said (Does i ∷ ms) body n p b o done h ends whole known =
         let f : HasFirst (line.Stmt (stmt_of ns gs i)) (more_forms ns i.opds i.op ++ h.0) body = has_first _ _ body h.1 in
-        let r : Behind h.0 f.rest = more_behind ns i.opds i.op h.0 f.rest f.forms in
+        let r : After h.0 f.rest = more_after ns i.opds i.op h.0 f.rest f.forms in
         let s : Stepped base scope once ns (marks_things ms) p b (stmt_of ns gs i) (with_stmt f.n (locals done n p b true) (stmt_of ns gs i)) =
         inst_read base scope once ns (is_void i.ty) (is_store i.op) i (stmt_of ns gs i) refl refl f.n n p b done (marks_things ms) whole known in
         let next : IsSaid (b + starts ms) (with_lines (locals s.done s.next (p + 1) b (not (is_terminator i.op))) r.ys) =

@@ -24,7 +24,7 @@ use Rattle.ir_types.specs.Formed.{is_plain}
 use Rattle.rf_text.specs.Spelled.{solid, MayWrite, AsShown, LeftOut, IsWrittenParam}
 use Rattle.rf_text.specs.Written.{op_of, shown_text, shown_block, stmt_of, more_forms, forms_of}
 use Rattle.rf_text.proofs.PlacedBlocks.{AreFitting, label_stands}
-use Rattle.rf_text.proofs.PlacedInsts.{IsFitting, opening, opening_behind, ResultTaken, result_taken, inst_stands, lines_append}
+use Rattle.rf_text.proofs.PlacedInsts.{IsFitting, opening, opening_after, ResultTaken, result_taken, inst_stands, lines_append}
 use Rattle.rf_text.proofs.PlacedNames.{Ahead, name_taken, ahead_small, value_found, value_passed, label_found, label_passed}
 use Rattle.rf_text.proofs.SpelledBuilt.{Mark, Starts, Does, insts_marks, marks}
 use Rattle.rf_text.proofs.SpelledMarks.{many, starts, SayMarks, Ends, marks_named}
@@ -106,9 +106,9 @@ module _ (names : List (List ℕ)) (ns : Names) (gs : List (List ℕ)) where
   spot true before = opening before
   spot false before = no_block
 
-  spot_behind : (ends before : Bool) → opening_behind ends before ≡ spot (not ends) before
-  spot_behind true before = refl
-  spot_behind false before = refl
+  past_spot : (ends before : Bool) → opening_after ends before ≡ spot (not ends) before
+  past_spot true before = refl
+  past_spot false before = refl
 
   pub record LinesStand (at before : ℕ) (ms : List Mark) (said : Result Place ReadRefusal) : Type 0 where
     pub next : ℕ
@@ -160,12 +160,12 @@ module _ (names : List (List ℕ)) (ns : Names) (gs : List (List ℕ)) where
   marks_stand (Does i ∷ ms) fs ln n insts at o before says ends fits ahead =
       let number : ℕ = fits.0 in
       let result : ResultTaken ns ln at n (stmt_of ns gs i).result (marks_named ms) = result_taken ns ln at n i (marks_named ms) (is_void i.ty) (is_store i.op) fits.2.named ahead in
-      let first : body_lines names ln (place n insts (fits.0 + 1) (opening before)) (forms_of ns gs i) ≡ Ok (place result.next (insts + 1) (fits.0 + 1) (opening_behind (is_terminator i.op) (before && is_phi i.op))) =
+      let first : body_lines names ln (place n insts (fits.0 + 1) (opening before)) (forms_of ns gs i) ≡ Ok (place result.next (insts + 1) (fits.0 + 1) (opening_after (is_terminator i.op) (before && is_phi i.op))) =
       inst_stands names ns gs before ln n result.next insts fits.0 i fits.2 fits.3 result.taken in
       let here : body_lines names ln (place n insts at (opening before)) (forms_of ns gs i) ≡ Ok (place result.next (insts + 1) at (spot (not (is_terminator i.op)) (before && is_phi i.op))) =
       ap (λ k. body_lines names ln (place n insts k (opening before)) (forms_of ns gs i)) fits.1 ∙ first
-      ∙ sym (ap (λ k. ok (place result.next (insts + 1) k (opening_behind (is_terminator i.op) (before && is_phi i.op)))) fits.1)
-      ∙ ap (λ s. ok (place result.next (insts + 1) at s)) (spot_behind (is_terminator i.op) (before && is_phi i.op)) in
+      ∙ sym (ap (λ k. ok (place result.next (insts + 1) k (opening_after (is_terminator i.op) (before && is_phi i.op)))) fits.1)
+      ∙ ap (λ s. ok (place result.next (insts + 1) at s)) (past_spot (is_terminator i.op) (before && is_phi i.op)) in
       let r : LinesStand at (insts + 1) ms (body_lines names (ln + length (forms_of ns gs i)) (place result.next (insts + 1) at (spot (not (is_terminator i.op)) (before && is_phi i.op))) says.0) =
       marks_stand ms says.0 (ln + length (forms_of ns gs i)) result.next (insts + 1) at (not (is_terminator i.op)) (before && is_phi i.op) says.2 ends.1 fits.4 result.ahead in
       record {

@@ -1,4 +1,4 @@
--- Lines written one behind the other are cut into these lines.
+-- Lines written one after the other are cut into these lines.
 use Rattle.std.proofs.Common.{◌≡◌, ℕ, ◌==◌, ◌||◌, not, Bool, true, false, List, [], ◌∷◌, ◌++◌, refl, ◌∙◌, ap}
 use Rattle.std.specs.List.{list_all}
 use Rattle.ir_lex.proofs.Classes.{both, neither}

@@ -31,7 +31,7 @@ use Rattle.rf_text.proofs.Splitting.{lines_of_joined}
 use Rattle.rf_text.proofs.TextLinesBodies.{Spoken, func_spoken}
 use Rattle.rf_text.proofs.TextLinesOnce.{Once, once_ids, once_front, once_back, func_once}
 
--- ---- text behind text
+-- ---- text after text
 
 -- text that is whole lines without a lexical fault, outside functions at both ends, of which these are the forms
 pub record Said (text : List ℕ) (forms : List (Option Line)) : Type 0 where

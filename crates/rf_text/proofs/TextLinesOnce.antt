@@ -130,8 +130,8 @@ absent e = cc
 here_found : (id : Id) (n : ℕ) (v : Id) (ty : Ty) (name : Option (List ℕ)) (vs : List Named) (before : Option Local) (t : Ty) (same : Bool) → same_id v id ≡ same → gives_id v vs ≡ false → (if same then Some ty else first_in id vs) ≡ Some t →
     (first_in id vs ≡ Some t → Found id (locals_from (counted n name) vs) before t) → Found id (local n v ty name ∷ locals_from (counted n name) vs) before t
 here_found id n v ty name vs before t true s once e more =
-    let behind : gives_id id vs ≡ false = subst (λ (x : Id). gives_id x vs ≡ false) (same_is v id s) once in
-    (local n v ty name, step id (local n v ty name) (locals_from (counted n name) vs) before true s ∙ stays id (counted n name) vs (Some (local n v ty name)) behind, cc)
+    let after : gives_id id vs ≡ false = subst (λ (x : Id). gives_id x vs ≡ false) (same_is v id s) once in
+    (local n v ty name, step id (local n v ty name) (locals_from (counted n name) vs) before true s ∙ stays id (counted n name) vs (Some (local n v ty name)) after, cc)
 here_found id n v ty name vs before t false s once e more =
     let found : Found id (locals_from (counted n name) vs) before t = more e in
     (found.0, step id (local n v ty name) (locals_from (counted n name) vs) before false s ∙ found.1, found.2)

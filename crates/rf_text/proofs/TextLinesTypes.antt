@@ -83,18 +83,18 @@ gives_id id [] = false
 gives_id id (Value v ty name ∷ vs) = same_id v id || gives_id id vs
 gives_id id (Label name ∷ vs) = gives_id id vs
 
-result_behind : (id : Id) (void store : Bool) (i : Inst) (vs : List Named) → gives_id id vs ≡ true → gives_id id (result_named void store i vs) ≡ true
-result_behind id false false i vs h = second_true (same_id i.id id) _ h
-result_behind id false true i vs h = h
-result_behind id true store i vs h = h
+result_after : (id : Id) (void store : Bool) (i : Inst) (vs : List Named) → gives_id id vs ≡ true → gives_id id (result_named void store i vs) ≡ true
+result_after id false false i vs h = second_true (same_id i.id id) _ h
+result_after id false true i vs h = h
+result_after id true store i vs h = h
 
-insts_behind : (id : Id) (is : List Inst) (vs : List Named) → gives_id id vs ≡ true → gives_id id (insts_named is vs) ≡ true
-insts_behind id [] vs h = h
-insts_behind id (i ∷ is) vs h = result_behind id (is_void i.ty) (is_store i.op) i (insts_named is vs) (insts_behind id is vs h)
+insts_after : (id : Id) (is : List Inst) (vs : List Named) → gives_id id vs ≡ true → gives_id id (insts_named is vs) ≡ true
+insts_after id [] vs h = h
+insts_after id (i ∷ is) vs h = result_after id (is_void i.ty) (is_store i.op) i (insts_named is vs) (insts_after id is vs h)
 
-params_behind : (id : Id) (ps : List Param) (vs : List Named) → gives_id id vs ≡ true → gives_id id (params_named ps vs) ≡ true
-params_behind id [] vs h = h
-params_behind id (p ∷ ps) vs h = second_true (same_id p.id id) _ (params_behind id ps vs h)
+params_after : (id : Id) (ps : List Param) (vs : List Named) → gives_id id vs ≡ true → gives_id id (params_named ps vs) ≡ true
+params_after id [] vs h = h
+params_after id (p ∷ ps) vs h = second_true (same_id p.id id) _ (params_after id ps vs h)
 
 absent : {A P : Type 0} {x : A} → None ≡ Some x → P
 absent e = cc
@@ -105,12 +105,12 @@ module _ (i : Inst) (value : is_void i.ty ≡ false) (other : is_store i.op ≡ 
   in_insts (j ∷ js) zero vs e =
       let same : j ≡ i = cc in
       rw (same, value, other) (rw (id_same i.id) refl)
-  in_insts (j ∷ js) (suc k) vs e = result_behind i.id (is_void j.ty) (is_store j.op) j (insts_named js vs) (in_insts js k vs e)
+  in_insts (j ∷ js) (suc k) vs e = result_after i.id (is_void j.ty) (is_store j.op) j (insts_named js vs) (in_insts js k vs e)
 
   in_blocks : (bs : List Block) (b : Block) (n k : ℕ) → slice_get bs n ≡ Some b → slice_get b.insts k ≡ Some i → gives_id i.id (blocks_named bs) ≡ true
   in_blocks [] b n k at e = absent at
   in_blocks (c ∷ cs) b zero k at e = let same : c ≡ b = cc in rw same (in_insts b.insts k (blocks_named cs) e)
-  in_blocks (c ∷ cs) b (suc n) k at e = insts_behind i.id c.insts (blocks_named cs) (in_blocks cs b n k at e)
+  in_blocks (c ∷ cs) b (suc n) k at e = insts_after i.id c.insts (blocks_named cs) (in_blocks cs b n k at e)
 
   pub in_func : (f : Func) (b : Block) (n k : ℕ) → slice_get f.blocks n ≡ Some b → slice_get b.insts k ≡ Some i → gives_id i.id (named_of f) ≡ true
-  in_func f b n k at e = params_behind i.id f.params (blocks_named f.blocks) (in_blocks f.blocks b n k at e)
+  in_func f b n k at e = params_after i.id f.params (blocks_named f.blocks) (in_blocks f.blocks b n k at e)

@@ -7,7 +7,7 @@ use Rattle.std.specs.List.{list_all, prefix_len}
 use Rattle.ir_lex.proofs.Runs.{run_passes}
 use Rattle.ir_line.specs.Keeping.{trimmed}
 
--- what stands behind the bytes that pass does not begin with one that passes
+-- what stands after the bytes that pass does not begin with one that passes
 run_over : (p : ℕ → Bool) (bs : List ℕ) → prefix_len p (drop (prefix_len p bs) bs) ≡ 0
 run_over p [] = refl
 run_over p (b ∷ bs) = here (p b) refl (run_over p bs) where

@@ -18,7 +18,7 @@ use Rattle.ir_types.specs.declared.func.Func.{Func}
 use Rattle.ir_types.specs.declared.module.Module.{Module}
 use Rattle.ir_types.specs.Walks.{targets_at}
 use Rattle.ir_types.specs.Available.{op_targets, graph_of}
-use Rattle.ir_types.specs.Typed.{is_value, IsCase, IsTyped}
+use Rattle.ir_types.specs.Typed.{is_value, IsCase, IsTyped, same_ty}
 use Rattle.ir_types.specs.Formed.{IsTarget, IsIncoming, IsFormedInst, value_ty, opd_ty}
 use Rattle.ir_draft.specs.declared.written.Written.{Written as WrittenOpd}
 use Rattle.ir_draft.specs.declared.written.Written.TheVariants as written'
@@ -36,7 +36,8 @@ use Rattle.ir_types_check.specs.declared.refusal.ResolveRefusal.{ResolveRefusal}
 use Rattle.ir_types_check.specs.Answers.{◌>>=◌, well_typed}
 use Rattle.ir_types_check.specs.Scope.{Scope, meaning}
 use Rattle.ir_types_check.specs.Links.{Choice, choices}
-use Rattle.ir_types_check.specs.Typed.{same_ty, is_value_of, arg_fits, number_in, number_of, number_at, targets, is_target, choice_targets, case_targets, sources_at, count, same_blocks, same_lane, same_lanes, same_literal, same_opd, is_brought, with_brought, agree, phi_fits, op_fits, stmt_fits, lane_number, with_number, choice_fits, choices_typed, cases_typed}
+use Rattle.ir_types.proofs.SameTypes.{same_itself}
+use Rattle.ir_types_check.specs.Typed.{is_value_of, arg_fits, number_in, number_of, number_at, targets, is_target, choice_targets, case_targets, sources_at, count, same_blocks, same_lane, same_lanes, same_literal, same_opd, is_brought, with_brought, agree, phi_fits, op_fits, stmt_fits, lane_number, with_number, choice_fits, choices_typed, cases_typed}
 use Rattle.ir_types_check.specs.Typed as typed
 use Rattle.ir_types_check.proofs.Handed.{LocalMeaning, TopMeaning, block_at}
 use Rattle.ir_types_check.proofs.Counts.{from_counts}
@@ -64,12 +65,6 @@ some_is : {A : Type 0} {x y : A} → Some x ≡ Some y → x ≡ y
 some_is e = cc
 
 -- ---- what is the same as itself
-
-same_itself : (t : Ty) → same_ty t t ≡ true
-same_itself Void = refl
-same_itself (Int w) = eq-eqb w w refl
-same_itself Ptr = refl
-same_itself (Row n w) = rw (eq-eqb n n refl, eq-eqb w w refl) refl
 
 lane_itself : (a : Option ℕ) → same_lane a a ≡ true
 lane_itself None = refl
@@ -365,7 +360,7 @@ module _ (m : Module) (f : Func) (tops : Scope TopMeaning) (base : ℕ) (known :
   cases_said (CondBr first second) t os s rest xs args ty all e = refl
   cases_said op t os s rest xs args ty all e = refl
 
-  -- the targets behind the line
+  -- the targets after the line
   choice_targets_said : (ty : Ty) (cases : List (Option ℕ)) (to : List ℕ) (rest : List Line) (xs : List Numbered) → map form_of xs ≡ cases_of (names_of f) ty cases to ++ (line.CasesEnd ∷ rest) → length cases ≡ length to → All IsThere to →
       choice_targets (scope_of f) (choices xs) ≡ to
   choice_targets_said ty [] [] rest xs e same all = let r : HasFirst line.CasesEnd rest xs = has_first line.CasesEnd rest xs e in ap (λ ys. choice_targets (scope_of f) (choices ys)) r.whole

@@ -24,7 +24,7 @@ use Rattle.ir_print.specs.Names.{names_of, named_of}
 use Rattle.ir_types_check.specs.declared.refusal.ResolveRefusal.{ResolveRefusal}
 use Rattle.ir_types_check.specs.Answers.{◌>>=◌, well_typed}
 use Rattle.ir_types_check.specs.Scope.{Scope}
-use Rattle.ir_types_check.specs.Outline.{start, opened, behind, behind_label, behind_inst, block_here}
+use Rattle.ir_types_check.specs.Outline.{start, opened, past, after_label, after_inst, block_here}
 use Rattle.ir_types_check.specs.Locals.{locals_of}
 use Rattle.ir_types_check.specs.Typed.{targets, case_targets, sources_at, with_edges, with_line_edges, sources_from, sources_of, count, stmt_fits, cases_typed, line_typed, lines_typed, function_typed}
 use Rattle.ir_types_check.proofs.Handed.{LocalMeaning, TopMeaning, LinePlace, LocalNames}
@@ -45,7 +45,7 @@ use Rattle.rf_text.proofs.SpelledBuilt.{Mark, Starts, Does, insts_marks, marks}
 use Rattle.rf_text.proofs.SpelledMarks.{SayMarks, Ends, blocks_marked, blocks_end, HasFirst, has_first}
 use Rattle.rf_text.proofs.SpelledOrder.{form_of}
 use Rattle.rf_text.proofs.SpellingItems.{HasNames, has_names}
-use Rattle.rf_text.proofs.SpellingLocals.{IsSilent, AreSilent, Behind, more_behind}
+use Rattle.rf_text.proofs.SpellingLocals.{IsSilent, AreSilent, After, more_after}
 use Rattle.rf_text.proofs.TextLinesOnce.{NamedOnce}
 use Rattle.rf_text.proofs.TypedInsts as inst
 
@@ -71,35 +71,35 @@ opened_open p = here p.is_open refl where
   here true e = ap (λ (q : LinePlace). q.is_open) (opened_is p e) ∙ e
   here false e = ap (λ (q : LinePlace). q.is_open) (opened_new p e)
 
-inst_blocks : (p : LinePlace) (s : Stmt) → (behind_inst p s).blocks ≡ p.blocks
-unfolding behind_inst
+inst_blocks : (p : LinePlace) (s : Stmt) → (after_inst p s).blocks ≡ p.blocks
+unfolding after_inst
 inst_blocks p s = refl
 
-inst_open : (p : LinePlace) (s : Stmt) → (behind_inst p s).is_open ≡ not (is_terminator s.op)
-unfolding behind_inst
+inst_open : (p : LinePlace) (s : Stmt) → (after_inst p s).is_open ≡ not (is_terminator s.op)
+unfolding after_inst
 inst_open p s = refl
 
-label_blocks : (p : LinePlace) (name : List ℕ) → (behind_label p name).blocks ≡ p.blocks + 1
-unfolding behind_label
+label_blocks : (p : LinePlace) (name : List ℕ) → (after_label p name).blocks ≡ p.blocks + 1
+unfolding after_label
 label_blocks p name = refl
 
-label_open : (p : LinePlace) (name : List ℕ) → (behind_label p name).is_open ≡ true
-unfolding behind_label
+label_open : (p : LinePlace) (name : List ℕ) → (after_label p name).is_open ≡ true
+unfolding after_label
 label_open p name = refl
 
--- a line in a block of this number, behind which `next` is the number of the next block
+-- a line in a block of this number, after which `next` is the number of the next block
 record IsIn (p : LinePlace) (o : Bool) (number next : ℕ) : Type 0 where
   open_is : p.is_open ≡ o
   blocks : p.blocks ≡ next
   own : o ≡ true → next ≡ number + 1
 
-in_label : (p : LinePlace) (name : List ℕ) (o : Bool) (number next : ℕ) → IsIn p o number next → IsIn (behind_label p name) true next (next + 1)
+in_label : (p : LinePlace) (name : List ℕ) (o : Bool) (number next : ℕ) → IsIn p o number next → IsIn (after_label p name) true next (next + 1)
 in_label p name o number next h = record { open_is = label_open p name; blocks = label_blocks p name ∙ ap (λ k. k + 1) h.blocks; own = λ e. refl }
 
 in_opened : (p : LinePlace) (number next : ℕ) → IsIn p false number next → IsIn (opened p) true next (next + 1)
 in_opened p number next h = record { open_is = opened_open p; blocks = ap (λ (q : LinePlace). q.blocks) (opened_new p h.open_is) ∙ ap (λ k. k + 1) h.blocks; own = λ e. refl }
 
-in_inst : (p : LinePlace) (s : Stmt) (number next : ℕ) (t : Bool) → is_terminator s.op ≡ t → IsIn p true number next → IsIn (behind_inst (opened p) s) (not t) number next
+in_inst : (p : LinePlace) (s : Stmt) (number next : ℕ) (t : Bool) → is_terminator s.op ≡ t → IsIn p true number next → IsIn (after_inst (opened p) s) (not t) number next
 in_inst p s number next t e h = record {
   open_is = inst_open (opened p) s ∙ ap not e;
   blocks = inst_blocks (opened p) s ∙ ap (λ (q : LinePlace). q.blocks) (opened_is p h.open_is) ∙ h.blocks;
@@ -208,7 +208,7 @@ module _ (m : Module) (f : Func) (tops : Scope TopMeaning) (base : ℕ) (known :
   silent_edges p S [] ys s = refl
   silent_edges p S (x ∷ xs) ys s = here x.form s.0 (silent_edges p S xs ys s.1) where
     here : (form : Line) → IsSilent form → sources_from (scope_of f) p S (xs ++ ys) ≡ sources_from (scope_of f) p S ys →
-        sources_from (scope_of f) (behind p form) (with_line_edges (scope_of f) p S form (xs ++ ys)) (xs ++ ys) ≡ sources_from (scope_of f) p S ys
+        sources_from (scope_of f) (past p form) (with_line_edges (scope_of f) p S form (xs ++ ys)) (xs ++ ys) ≡ sources_from (scope_of f) p S ys
     here (line.Case value label) s more = more
     here line.CasesEnd s more = more
     here line.Empty s more = absurd s
@@ -221,7 +221,7 @@ module _ (m : Module) (f : Func) (tops : Scope TopMeaning) (base : ℕ) (known :
   -- where no block is open, an instruction begins one
   open_edges : (p : LinePlace) (S : List (List ℕ)) (s : Stmt) (n : ℕ) (xs : List Numbered) → sources_from (scope_of f) p S (record { line = n; form = line.Stmt s } ∷ xs) ≡ sources_from (scope_of f) (opened p) S (record { line = n; form = line.Stmt s } ∷ xs)
   open_edges p S s n xs =
-      ap (λ (q : LinePlace). sources_from (scope_of f) (behind_inst q s) (with_edges (q.blocks - 1) (with_edges (q.blocks - 1) S (targets (scope_of f) s.labels s.op)) (case_targets (scope_of f) s.op xs)) xs) (sym (opened_is (opened p) (opened_open p)))
+      ap (λ (q : LinePlace). sources_from (scope_of f) (after_inst q s) (with_edges (q.blocks - 1) (with_edges (q.blocks - 1) S (targets (scope_of f) s.labels s.op)) (case_targets (scope_of f) s.op xs)) xs) (sym (opened_is (opened p) (opened_open p)))
 
   sources_said : (ms : List Mark) (body : List Numbered) (p : LinePlace) (number next : ℕ) (o : Bool) (S : List (List ℕ)) → SayMarks m.globals (names_of f) next ms (map form_of body) → Ends o ms → IsIn p o number next → InstsThere ms →
       sources_from (scope_of f) p S body ≡ edges_marks number next ms S
@@ -233,7 +233,7 @@ module _ (m : Module) (f : Func) (tops : Scope TopMeaning) (base : ℕ) (known :
         | inl e ↦
             let r : HasFirst (line.Label _) says.0 body = has_first _ _ body e in
             ap (sources_from (scope_of f) p S) r.whole
-            ∙ sources_said ms r.rest (behind_label p _) next (next + 1) true S (subst (SayMarks m.globals (names_of f) (next + 1) ms) (sym r.forms) says.2) ends.1 (in_label p _ o number next h) there
+            ∙ sources_said ms r.rest (after_label p _) next (next + 1) true S (subst (SayMarks m.globals (names_of f) (next + 1) ms) (sym r.forms) says.2) ends.1 (in_label p _ o number next h) there
         | inr e ↦
             let more : SayMarks m.globals (names_of f) (next + 1) ms (map form_of body) = subst (SayMarks m.globals (names_of f) (next + 1) ms) (sym e.1) says.2 in
             unlabelled ms ends.1 more ∙ sources_said ms body (opened p) next (next + 1) true S more ends.1 (in_opened p number next (subst (λ b. IsIn p b number next) ends.0 h)) there
@@ -248,19 +248,19 @@ module _ (m : Module) (f : Func) (tops : Scope TopMeaning) (base : ℕ) (known :
   sources_said (Does i ∷ ms) body p number next o S says ends h there =
       let s : Stmt = stmt_of (names_of f) m.globals i in
       let r : HasFirst (line.Stmt (stmt_of (names_of f) m.globals i)) (more_forms (names_of f) i.opds i.op ++ says.0) body = has_first _ _ body says.1 in
-      let b : Behind says.0 r.rest = more_behind (names_of f) i.opds i.op says.0 r.rest r.forms in
+      let b : After says.0 r.rest = more_after (names_of f) i.opds i.op says.0 r.rest r.forms in
       let inside : IsIn p true number next = subst (λ t. IsIn p t number next) ends.0 h in
-      let q : LinePlace = behind_inst (opened p) (stmt_of (names_of f) m.globals i) in
+      let q : LinePlace = after_inst (opened p) (stmt_of (names_of f) m.globals i) in
       let own : targets (scope_of f) (stmt_of (names_of f) m.globals i).labels (op_of i.op) ≡ inst.line_targets m f tops base known once i.op = inst.targets_said m f tops base known once i.op there.0.blocks in
       let cases : case_targets (scope_of f) (op_of i.op) r.rest ≡ case_blocks i.op = inst.case_targets_said m f tops base known once i.op i.opds says.0 r.rest r.forms there.0.shape there.0.cases in
       let T : List (List ℕ) = with_edges number (with_edges number S (inst.line_targets m f tops base known once i.op)) (case_blocks i.op) in
       ap (sources_from (scope_of f) p S) r.whole
-      ∙ ap (λ k. sources_from (scope_of f) (behind_inst (opened p) (stmt_of (names_of f) m.globals i)) (with_edges k (with_edges k S (targets (scope_of f) (stmt_of (names_of f) m.globals i).labels (op_of i.op))) (case_targets (scope_of f) (op_of i.op) r.rest)) r.rest) (here_is p number next inside)
-      ∙ ap (λ ts. sources_from (scope_of f) (behind_inst (opened p) (stmt_of (names_of f) m.globals i)) (with_edges number (with_edges number S ts) (case_targets (scope_of f) (op_of i.op) r.rest)) r.rest) own
-      ∙ ap (λ us. sources_from (scope_of f) (behind_inst (opened p) (stmt_of (names_of f) m.globals i)) (with_edges number (with_edges number S (inst.line_targets m f tops base known once i.op)) us) r.rest) cases
-      ∙ ap (sources_from (scope_of f) (behind_inst (opened p) (stmt_of (names_of f) m.globals i)) (with_edges number (with_edges number S (inst.line_targets m f tops base known once i.op)) (case_blocks i.op))) b.whole
-      ∙ silent_edges (behind_inst (opened p) (stmt_of (names_of f) m.globals i)) (with_edges number (with_edges number S (inst.line_targets m f tops base known once i.op)) (case_blocks i.op)) b.front b.ys b.silent
-      ∙ sources_said ms b.ys (behind_inst (opened p) (stmt_of (names_of f) m.globals i)) number next (not (is_terminator i.op)) (with_edges number (with_edges number S (inst.line_targets m f tops base known once i.op)) (case_blocks i.op))
+      ∙ ap (λ k. sources_from (scope_of f) (after_inst (opened p) (stmt_of (names_of f) m.globals i)) (with_edges k (with_edges k S (targets (scope_of f) (stmt_of (names_of f) m.globals i).labels (op_of i.op))) (case_targets (scope_of f) (op_of i.op) r.rest)) r.rest) (here_is p number next inside)
+      ∙ ap (λ ts. sources_from (scope_of f) (after_inst (opened p) (stmt_of (names_of f) m.globals i)) (with_edges number (with_edges number S ts) (case_targets (scope_of f) (op_of i.op) r.rest)) r.rest) own
+      ∙ ap (λ us. sources_from (scope_of f) (after_inst (opened p) (stmt_of (names_of f) m.globals i)) (with_edges number (with_edges number S (inst.line_targets m f tops base known once i.op)) us) r.rest) cases
+      ∙ ap (sources_from (scope_of f) (after_inst (opened p) (stmt_of (names_of f) m.globals i)) (with_edges number (with_edges number S (inst.line_targets m f tops base known once i.op)) (case_blocks i.op))) b.whole
+      ∙ silent_edges (after_inst (opened p) (stmt_of (names_of f) m.globals i)) (with_edges number (with_edges number S (inst.line_targets m f tops base known once i.op)) (case_blocks i.op)) b.front b.ys b.silent
+      ∙ sources_said ms b.ys (after_inst (opened p) (stmt_of (names_of f) m.globals i)) number next (not (is_terminator i.op)) (with_edges number (with_edges number S (inst.line_targets m f tops base known once i.op)) (case_blocks i.op))
       (subst (SayMarks m.globals (names_of f) next ms) (sym b.forms) says.2) ends.1 (in_inst p (stmt_of (names_of f) m.globals i) number next (is_terminator i.op) (ends_as i.op) inside) there.1
 
   module _ (S : List (List ℕ)) where
@@ -277,7 +277,7 @@ module _ (m : Module) (f : Func) (tops : Scope TopMeaning) (base : ℕ) (known :
     silent_typed p [] ys s = refl
     silent_typed p (x ∷ xs) ys s = here x.form s.0 (silent_typed p xs ys s.1) where
       here : (form : Line) → IsSilent form → lines_typed tops (scope_of f) f.ret S p (xs ++ ys) ≡ lines_typed tops (scope_of f) f.ret S p ys →
-          (line_typed tops (scope_of f) f.ret S p x.line form (xs ++ ys) >>= λ _. lines_typed tops (scope_of f) f.ret S (behind p form) (xs ++ ys)) ≡ lines_typed tops (scope_of f) f.ret S p ys
+          (line_typed tops (scope_of f) f.ret S p x.line form (xs ++ ys) >>= λ _. lines_typed tops (scope_of f) f.ret S (past p form) (xs ++ ys)) ≡ lines_typed tops (scope_of f) f.ret S p ys
       here (line.Case value label) s more = more
       here line.CasesEnd s more = more
       here line.Empty s more = absurd s
@@ -289,7 +289,7 @@ module _ (m : Module) (f : Func) (tops : Scope TopMeaning) (base : ℕ) (known :
 
     open_typed : (p : LinePlace) (s : Stmt) (n : ℕ) (xs : List Numbered) → lines_typed tops (scope_of f) f.ret S p (record { line = n; form = line.Stmt s } ∷ xs) ≡ lines_typed tops (scope_of f) f.ret S (opened p) (record { line = n; form = line.Stmt s } ∷ xs)
     open_typed p s n xs =
-        ap (λ (q : LinePlace). well_typed n (stmt_fits tops (scope_of f) f.ret S (q.blocks - 1) s) >>= (λ _. cases_typed (scope_of f) s s.op xs) >>= λ _. lines_typed tops (scope_of f) f.ret S (behind_inst q s) xs) (sym (opened_is (opened p) (opened_open p)))
+        ap (λ (q : LinePlace). well_typed n (stmt_fits tops (scope_of f) f.ret S (q.blocks - 1) s) >>= (λ _. cases_typed (scope_of f) s s.op xs) >>= λ _. lines_typed tops (scope_of f) f.ret S (after_inst q s) xs) (sym (opened_is (opened p) (opened_open p)))
 
     lines_said : (ms : List Mark) (body : List Numbered) (p : LinePlace) (number next : ℕ) (o : Bool) → SayMarks m.globals (names_of f) next ms (map form_of body) → Ends o ms → IsIn p o number next → AreTyped number next ms →
         lines_typed tops (scope_of f) f.ret S p body ≡ Ok tt
@@ -301,7 +301,7 @@ module _ (m : Module) (f : Func) (tops : Scope TopMeaning) (base : ℕ) (known :
           | inl e ↦
               let r : HasFirst (line.Label _) says.0 body = has_first _ _ body e in
               ap (lines_typed tops (scope_of f) f.ret S p) r.whole
-              ∙ lines_said ms r.rest (behind_label p _) next (next + 1) true (subst (SayMarks m.globals (names_of f) (next + 1) ms) (sym r.forms) says.2) ends.1 (in_label p _ o number next h) all
+              ∙ lines_said ms r.rest (after_label p _) next (next + 1) true (subst (SayMarks m.globals (names_of f) (next + 1) ms) (sym r.forms) says.2) ends.1 (in_label p _ o number next h) all
           | inr e ↦
               let more : SayMarks m.globals (names_of f) (next + 1) ms (map form_of body) = subst (SayMarks m.globals (names_of f) (next + 1) ms) (sym e.1) says.2 in
               unlabelled ms ends.1 more ∙ lines_said ms body (opened p) next (next + 1) true more ends.1 (in_opened p number next (subst (λ b. IsIn p b number next) ends.0 h)) all
@@ -315,15 +315,15 @@ module _ (m : Module) (f : Func) (tops : Scope TopMeaning) (base : ℕ) (known :
             ap (lines_typed tops (scope_of f) f.ret S p) r.whole ∙ open_typed p (stmt_of (names_of f) m.globals i) r.n r.rest ∙ ap (lines_typed tops (scope_of f) f.ret S (opened p)) (sym r.whole)
     lines_said (Does i ∷ ms) body p number next o says ends h all =
         let r : HasFirst (line.Stmt (stmt_of (names_of f) m.globals i)) (more_forms (names_of f) i.opds i.op ++ says.0) body = has_first _ _ body says.1 in
-        let b : Behind says.0 r.rest = more_behind (names_of f) i.opds i.op says.0 r.rest r.forms in
+        let b : After says.0 r.rest = more_after (names_of f) i.opds i.op says.0 r.rest r.forms in
         let inside : IsIn p true number next = subst (λ t. IsIn p t number next) ends.0 h in
         ap (lines_typed tops (scope_of f) f.ret S p) r.whole
-        ∙ ap (λ k. well_typed r.n (stmt_fits tops (scope_of f) f.ret S k (stmt_of (names_of f) m.globals i)) >>= (λ _. cases_typed (scope_of f) (stmt_of (names_of f) m.globals i) (op_of i.op) r.rest) >>= λ _. lines_typed tops (scope_of f) f.ret S (behind_inst (opened p) (stmt_of (names_of f) m.globals i)) r.rest) (here_is p number next inside)
-        ∙ ap (λ t. well_typed r.n t >>= (λ _. cases_typed (scope_of f) (stmt_of (names_of f) m.globals i) (op_of i.op) r.rest) >>= λ _. lines_typed tops (scope_of f) f.ret S (behind_inst (opened p) (stmt_of (names_of f) m.globals i)) r.rest) all.0.fits
-        ∙ ap (λ (x : Result (Unit {0}) ResolveRefusal). x >>= λ _. lines_typed tops (scope_of f) f.ret S (behind_inst (opened p) (stmt_of (names_of f) m.globals i)) r.rest) (all.0.cases says.0 r.rest r.forms)
-        ∙ ap (lines_typed tops (scope_of f) f.ret S (behind_inst (opened p) (stmt_of (names_of f) m.globals i))) b.whole
-        ∙ silent_typed (behind_inst (opened p) (stmt_of (names_of f) m.globals i)) b.front b.ys b.silent
-        ∙ lines_said ms b.ys (behind_inst (opened p) (stmt_of (names_of f) m.globals i)) number next (not (is_terminator i.op)) (subst (SayMarks m.globals (names_of f) next ms) (sym b.forms) says.2) ends.1
+        ∙ ap (λ k. well_typed r.n (stmt_fits tops (scope_of f) f.ret S k (stmt_of (names_of f) m.globals i)) >>= (λ _. cases_typed (scope_of f) (stmt_of (names_of f) m.globals i) (op_of i.op) r.rest) >>= λ _. lines_typed tops (scope_of f) f.ret S (after_inst (opened p) (stmt_of (names_of f) m.globals i)) r.rest) (here_is p number next inside)
+        ∙ ap (λ t. well_typed r.n t >>= (λ _. cases_typed (scope_of f) (stmt_of (names_of f) m.globals i) (op_of i.op) r.rest) >>= λ _. lines_typed tops (scope_of f) f.ret S (after_inst (opened p) (stmt_of (names_of f) m.globals i)) r.rest) all.0.fits
+        ∙ ap (λ (x : Result (Unit {0}) ResolveRefusal). x >>= λ _. lines_typed tops (scope_of f) f.ret S (after_inst (opened p) (stmt_of (names_of f) m.globals i)) r.rest) (all.0.cases says.0 r.rest r.forms)
+        ∙ ap (lines_typed tops (scope_of f) f.ret S (after_inst (opened p) (stmt_of (names_of f) m.globals i))) b.whole
+        ∙ silent_typed (after_inst (opened p) (stmt_of (names_of f) m.globals i)) b.front b.ys b.silent
+        ∙ lines_said ms b.ys (after_inst (opened p) (stmt_of (names_of f) m.globals i)) number next (not (is_terminator i.op)) (subst (SayMarks m.globals (names_of f) next ms) (sym b.forms) says.2) ends.1
         (in_inst p (stmt_of (names_of f) m.globals i) number next (is_terminator i.op) (ends_as i.op) inside) all.1
 
   -- ---- what is formed

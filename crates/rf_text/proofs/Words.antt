@@ -1,11 +1,11 @@
--- Bytes of printed lines: they are cut into words that do not depend on what stands behind them, have no fault, and bear no attachment.
+-- Bytes of printed lines: they are cut into words that do not depend on what stands after them, have no fault, and bear no attachment.
 use Rattle.std.proofs.Common.{◌≡◌, ℕ, suc, zero, ◌+◌, ◌<◌, ◌==◌, Bool, true, false, cond, not, ◌&&◌, List, [], ◌∷◌, ◌++◌, length, take, nat_lt, Some, None, refl, ◌∙◌, ap, arith, codes, bytes_eq}
 use Rattle.std.proofs.Math.Seq.{take-length}
 use Rattle.std.proofs.lemmas.List.{length-map}
 use Rattle.std.proofs.lemmas.Bool.Decides.{nat_tests}
 use Rattle.std.specs.List.{list_all}
 use Rattle.ir_lex.specs.Bytes.{quote, semicolon, begins_name, is_word_byte, is_blank, is_control}
-use Rattle.ir_lex.specs.Faults.{enter, behind, begins_fault}
+use Rattle.ir_lex.specs.Faults.{enter, after, begins_fault}
 use Rattle.ir_lex.specs.Scan.{texts, texts_from, more_len, cut, fault_of, fault_from}
 use Rattle.ir_lex.specs.Tokens.{IsToken, Run}
 use Rattle.ir_lex.specs.Words.{words}
@@ -47,7 +47,7 @@ abbrev pub Taken : {A B : Type 0} → (A → B) → Type 0
 Taken {A} f = A
 
 -- plain bytes leave a part of the line that each of them leaves
-stays : (part : Taken enter) → ((b : ℕ) → NoSign b → enter part b ≡ part) → (bs : List ℕ) → list_all is_plain bs ≡ true → behind part bs ≡ part
+stays : (part : Taken enter) → ((b : ℕ) → NoSign b → enter part b ≡ part) → (bs : List ℕ) → list_all is_plain bs ≡ true → after part bs ≡ part
 stays part each [] h = refl
 stays part each (b ∷ bs) h =
     let stay : enter part b ≡ part = each b (plain_is b (both (is_plain b) _ h).0) in

@@ -22,7 +22,7 @@ use Rattle.ir_print.specs.Operands.{spaced}
 use Rattle.ir_print.specs.Text.{params_text, head_text, header_text}
 use Rattle.ir_types.specs.KeptParts.{IsKeptPart, IsBefore, IsAttributes}
 
--- the name of a local, as it stands behind `%`: a plain name, or a number without leading zeros
+-- the name of a local, as it stands after `%`: a plain name, or a number without leading zeros
 abbrev pub is_local_name : List ℕ → Bool
 is_local_name name = is_name name || (is_number name && bytes_eq (plain_number name) name)
 
@@ -42,7 +42,7 @@ pub record IsHeader (before : List ℕ) (ret : Ty) (name : List ℕ) (params : L
   pub returned : is_returned ret ≡ true
   pub named : is_name name ≡ true
   pub typed : All IsParam params
-  pub behind : IsKeptPart after
+  pub at_end : IsKeptPart after
 
 -- whether a parameter's written name, if it has one, is the name of a local
 abbrev pub is_written : Option (List ℕ) → Bool

@@ -1,4 +1,4 @@
--- Lines that are written one behind the other, and lines that are kept.
+-- Lines that are written one after the other, and lines that are kept.
 use Rattle.std.specs.Prelude.{◌≡◌, refl, ℕ, ◌==◌, ◌||◌, not, Bool, true, false, None, Some, List, [], ◌∷◌, ◌++◌, codes}
 use Rattle.std.specs.List.{list_all}
 use Rattle.ir_lex.specs.Scan.{texts, fault_of}
@@ -9,7 +9,7 @@ use Rattle.ir_line.specs.Keeping.{kept_of}
 use Rattle.ir_read.specs.Lines.{lines_of}
 use Rattle.ir_read.specs.Forms.{form_in}
 
--- lines, each with a line feed behind it
+-- lines, each with a line feed after it
 abbrev pub joined : List (List ℕ) → List ℕ
 joined [] = []
 joined (l ∷ ls) = l ++ (10 ∷ joined ls)
@@ -22,7 +22,7 @@ stays_in_line b = not (b == 10 || b == 13)
 abbrev pub is_line : List ℕ → Bool
 is_line bs = list_all stays_in_line bs
 
--- lines written one behind the other are read as these lines
+-- lines written one after the other are read as these lines
 abbrev pub LinesAgain : Type 0
 LinesAgain = (ls : List (List ℕ)) → list_all is_line ls ≡ true → lines_of (joined ls) ≡ ls
 

@@ -31,7 +31,7 @@ module _ (ns : Names) (gs : List (List ℕ)) where
   insts_forms [] = []
   insts_forms (i ∷ is) = forms_of ns gs i ++ insts_forms is
 
-  -- blocks behind the first, of which the next has this number
+  -- blocks after the first, of which the next has this number
   abbrev pub more_blocks_forms : ℕ → List Block → List Line
   more_blocks_forms at [] = []
   more_blocks_forms at (b ∷ bs) = line.Empty ∷ (label_forms (slice_get ns.labels at) ++ (insts_forms b.insts ++ more_blocks_forms (at + 1) bs))
@@ -63,7 +63,7 @@ abbrev pub gap_forms : Bool → Bool → List (Option Line)
 gap_forms false false = []
 gap_forms _ _ = Some line.Empty ∷ []
 
--- items behind one that is a function or not
+-- items after one that is a function or not
 abbrev pub more_items_forms : List (List ℕ) → Bool → List Item → List (Option Line)
 more_items_forms gs before [] = []
 more_items_forms gs before (i ∷ is) = gap_forms before (is_function i) ++ (item_forms gs i ++ more_items_forms gs (is_function i) is)

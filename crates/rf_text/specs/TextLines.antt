@@ -37,7 +37,7 @@ pub record TextLines (m : Module) : Type 0 where
 abbrev pub TextsAreLines : Type 0
 TextsAreLines = (m : Module) → IsFormed m → IsPrintable m → IsCounted m → TextLines m
 
--- a source file's name, and a function behind it
+-- a source file's name, and a function after it
 named : Module
 named = record {
   items = Kept (codes "source_filename = \"a\"")

@@ -86,7 +86,7 @@ abbrev pub first_ty : Names → List Opd → Ty
 first_ty ns [] = Void
 first_ty ns (o ∷ os) = opd_ty ns o
 
--- the lines behind the first
+-- the lines after the first
 abbrev pub more_forms : Names → List Opd → Op → List Line
 more_forms ns os (Switch other cases to) = cases_of ns (first_ty ns os) cases to ++ CasesEnd ∷ []
 more_forms ns os op = []

@@ -3,7 +3,7 @@
 ghost use Rattle.rf_text.specs.Headed.{HeadersAgain, HeadersAreHeads, HeadsOfLines, ParamsAreShown};
 ghost use Rattle.rf_text.specs.LinesOf.{LinesAgain, SoundAreLines, FormsAreOfLines, KeptAgain, KeptByText};
 
-/// Lines written one behind the other, each with a line feed behind it, are read as these lines.
+/// Lines written one after the other, each with a line feed after it, are read as these lines.
 pub fn lines_again()
     ensures { LinesAgain }
 {}

@@ -58,7 +58,7 @@ items_counted (i ∷ is) e =
 pub counted : (m : Module) → are_counted m ≡ true → IsCounted m
 counted m e = items_counted m.items e
 
--- behind the last of some blocks all are counted
+-- after the last of some blocks all are counted
 pub counted_whole : (count start bound : ℕ) (bs : List Block) (i : ℕ) → count ≤ bound → length bs ≤ i → min (count + blocks_size (drop i bs)) bound ≡ min (start + blocks_size bs) bound → count ≡ min (start + blocks_size bs) bound
 counted_whole count start bound bs i few past e =
     let none : drop i bs ≡ [] = drop_of_length-le bs past in

@@ -1,5 +1,5 @@
 -- What the program answers and writes: the texts of its faults, and what each stream has at each status.
-use Rattle.std.specs.Prelude.{◌≡◌, ℕ, ◌<◌, ◌≤◌, ◌⊎◌, Option, None, Some, Ok, Err, List, [], ◌∷◌, ◌++◌, codes, length, IfSome}
+use Rattle.std.specs.Prelude.{◌≡◌, refl, ℕ, ◌<◌, ◌≤◌, ◌⊎◌, Option, None, Some, Ok, Err, List, [], ◌∷◌, ◌++◌, codes, length, IfSome}
 use Rattle.std.specs.Fmt.{decimal}
 use Rattle.std.specs.Io.KnownBytes.{Appends, Keeps, IsAtEnd}
 use Rattle.vx_io.specs.Bytes.{AppendsFront}
@@ -69,6 +69,10 @@ said_of NoMemory = codes "no memory"
 -- the line that tells it
 abbrev pub told : Fault → List ℕ
 told f = codes "sandvec: " ++ (said_of f ++ codes "\n")
+
+-- too many values are no fault of a line, and have the status of the limit on bytes
+too_many_values : (told (Refused (Passes Values)) ≡ codes "sandvec: limit: values\n") × (status_of (Refused (Passes Values)) ≡ status_of TooLong)
+too_many_values = (refl, refl)
 
 -- the most bytes of an input
 abbrev pub byte_limit : ℕ

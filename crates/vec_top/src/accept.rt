@@ -56,19 +56,12 @@ fn resolved(alloc: Global, bytes: Vec<u8>) -> Result<Resolved, Fault>
     }
 }
 
-/// Whether both are one id.
-fn is(id: Id, other: Id) -> bool
-    ensures { result ≡ available.same_id id other }
-{
-    id.region == other.region && id.k == other.k
-}
-
 /// The first instruction of an id.
 fn inst_among(id: Id, insts: &[Inst]) -> Option<&Inst>
     ensures { option_copied result ≡ accepts.inst_among id insts.now }
 {
     for inst in insts {
-        if is(inst.id, id) {
+        if inst.id.same(id) {
             return Some(inst);
         }
     }

@@ -107,7 +107,7 @@ fn push_named(out: &mut Vec<u8>, line: u32, name: &[u8], what: &[u8]) -> Result<
     Ok(())
 }
 
-/// What is said of a lexical fault behind its byte.
+/// What is said of a lexical fault after its byte.
 fn push_lexical(out: &mut Vec<u8>) -> Result<(), AllocError>
     ensures { OnOk result (out.new.items ≡ out.old.items ++ codes ": lexical fault") }
 {
@@ -133,7 +133,7 @@ fn push_lex(out: &mut Vec<u8>, line: u32, byte: u32) -> Result<(), AllocError>
     Ok(())
 }
 
-/// The blocks of a walk, each behind a space.
+/// The blocks of a walk, each after a space.
 fn push_walk(out: &mut Vec<u8>, walk: &[u32]) -> Result<(), AllocError>
     ensures { OnOk result (out.new.items ≡ out.old.items ++ replies.walk_text walk.now) }
 {

@@ -33,13 +33,13 @@ use Rattle.vec_words.specs.declared.starts.Start.{Start}
 use Rattle.vec_words.specs.declared.run_words.Called.{Called}
 use Rattle.vec_words.specs.Answers.{choose}
 use Rattle.vec_words.specs.Numbers.{offset_of, plain_of}
-use Rattle.vec_words.specs.Pieces.{behind, cut, closed, piece}
-use Rattle.vec_words.specs.Hex.{digit_of, byte_of, bytes_behind, bytes_of}
-use Rattle.vec_words.specs.Literals.{lit_of, lane_in, lanes_behind}
+use Rattle.vec_words.specs.Pieces.{past, cut, closed, piece}
+use Rattle.vec_words.specs.Hex.{digit_of, byte_of, bytes_after, bytes_of}
+use Rattle.vec_words.specs.Literals.{lit_of, lane_in, lanes_after}
 use Rattle.vec_words.specs.Calls.{goes_on_with, name_of, callable_of, lits_within, row_arg, made_arg, makes, within_arg, global_arg, plain_arg, arg_of, args_within, args_of, call_of, contents_of}
-use Rattle.vec_words.specs.Arguments.{place_from, int_value, row_lanes, pointer_into, pointer_to, pointer_value, value_in, made_count, values_behind}
+use Rattle.vec_words.specs.Arguments.{place_from, int_value, row_lanes, pointer_into, pointer_to, pointer_value, value_in, made_count, values_after}
 use Rattle.vec_words.specs.Globals.{untouched, is_free, with_bytes_at, with_word, then_words, with_words}
-use Rattle.vec_words.specs.Starts.{named_from, made_behind, called_in, started, start_called, start_of, IsFit}
+use Rattle.vec_words.specs.Starts.{named_from, made_after, called_in, started, start_called, start_of, IsFit}
 
 -- ---- readings that find something
 
@@ -99,12 +99,12 @@ all_of_every : {A : Type 0} (P : A → Type 0) (xs : List A) → Every P xs → 
 all_of_every P [] h = All-nil P
 all_of_every P (x ∷ xs) h = All-cons P x xs h.0 (all_of_every P xs h.1)
 
-bytes_fit : (before : List (Option ℕ)) (t : List ℕ) (bs : List (Option ℕ)) → Every (IsLane 8) before → bytes_behind before t ≡ Some bs →
+bytes_fit : (before : List (Option ℕ)) (t : List ℕ) (bs : List (Option ℕ)) → Every (IsLane 8) before → bytes_after before t ≡ Some bs →
     Every (IsLane 8) bs × (2 * length bs ≡ 2 * length before + length t)
 bytes_fit before [] bs h e = let s : before ≡ bs = cc in (subst (Every (IsLane 8)) s h, ap (λ xs. 2 * length xs) (sym s) ∙ omega arith)
 bytes_fit before (a ∷ []) bs h e = absurd cc
 bytes_fit before (a ∷ b ∷ t) bs h e =
-    let x = bind_some (byte_of a b) (λ x. bytes_behind (before ++ x ∷ []) t) bs e in
+    let x = bind_some (byte_of a b) (λ x. bytes_after (before ++ x ∷ []) t) bs e in
     let r = bytes_fit (before ++ x.0 ∷ []) t bs (every_push (IsLane 8) before x.0 h (byte_fits a b x.0 x.1)) x.2 in
     let long = length-append before (x.0 ∷ []) in
     let count = r.1 in
@@ -113,7 +113,7 @@ bytes_fit before (a ∷ b ∷ t) bs h e =
 object_fits : (t : List ℕ) (bs : List (Option ℕ)) → bytes_of t ≡ Some bs → ObjectFits bs
 object_fits t bs e = by_test (nat_lt 281474976710656 (length t)) refl e
   where
-    by_test : (b : Bool) → nat_lt 281474976710656 (length t) ≡ b → cond b None (bytes_behind [] t) ≡ Some bs → ObjectFits bs
+    by_test : (b : Bool) → nat_lt 281474976710656 (length t) ≡ b → cond b None (bytes_after [] t) ≡ Some bs → ObjectFits bs
     by_test true h e = absurd cc
     by_test false h e =
         let r = bytes_fit [] t bs tt e in
@@ -164,11 +164,11 @@ lane_fits w (Number minus k) (Some n) e =
     by_sign true x e = by_negative (nat_lt 64 w) x e
     by_sign false x e = by_fitting (nat_lt 64 w) x e
 
-lanes_fit : (w : ℕ) (before : List (Option ℕ)) (ls : List Lit) (xs : List (Option ℕ)) → Every (IsLane w) before → lanes_behind w before ls ≡ Some xs →
+lanes_fit : (w : ℕ) (before : List (Option ℕ)) (ls : List Lit) (xs : List (Option ℕ)) → Every (IsLane w) before → lanes_after w before ls ≡ Some xs →
     Every (IsLane w) xs × (length xs ≡ length before + length ls)
 lanes_fit w before [] xs h e = let s : before ≡ xs = cc in (subst (Every (IsLane w)) s h, ap length (sym s) ∙ omega arith)
 lanes_fit w before (l ∷ ls) xs h e =
-    let x = bind_some (lane_in w l) (λ x. lanes_behind w (before ++ x ∷ []) ls) xs e in
+    let x = bind_some (lane_in w l) (λ x. lanes_after w (before ++ x ∷ []) ls) xs e in
     let r = lanes_fit w (before ++ x.0 ∷ []) ls xs (every_push (IsLane w) before x.0 h (lane_fits w l x.0 x.1)) x.2 in
     let long = length-append before (x.0 ∷ []) in
     let count = r.1 in
@@ -225,29 +225,29 @@ plain_fits t a e = by_zero (cond_some (bytes_eq t (codes "zeroinitializer")) (So
 
 arg_fits : (before : List Arg) (t : List ℕ) (a : Arg) → arg_of before t ≡ Some a → ArgFits a
 unfolding arg_of
-arg_fits before t a e = by_made (choose_some (behind (codes "mem:") t) made_arg after_made a e)
+arg_fits before t a e = by_made (choose_some (past (codes "mem:") t) made_arg after_made a e)
   where
     after_row : Option Arg
-    after_row = choose (behind (codes "<") t) row_arg (plain_arg t)
+    after_row = choose (past (codes "<") t) row_arg (plain_arg t)
 
     after_made : Option Arg
-    after_made = choose (behind (codes "arg:") t) (within_arg before) (choose (behind (codes "@") t) global_arg (choose (behind (codes "<") t) row_arg (plain_arg t)))
+    after_made = choose (past (codes "arg:") t) (within_arg before) (choose (past (codes "@") t) global_arg (choose (past (codes "<") t) row_arg (plain_arg t)))
 
     by_row : ((u : List ℕ) × (row_arg u ≡ Some a)) ⊎ (plain_arg t ≡ Some a) → ArgFits a
     by_row (inl r) = row_fits r.0 a r.1
     by_row (inr e) = plain_fits t a e
 
-    by_global : ((u : List ℕ) × (global_arg u ≡ Some a)) ⊎ (choose (behind (codes "<") t) row_arg (plain_arg t) ≡ Some a) → ArgFits a
+    by_global : ((u : List ℕ) × (global_arg u ≡ Some a)) ⊎ (choose (past (codes "<") t) row_arg (plain_arg t) ≡ Some a) → ArgFits a
     by_global (inl r) = global_fits r.0 a r.1
-    by_global (inr e) = by_row (choose_some (behind (codes "<") t) row_arg (plain_arg t) a e)
+    by_global (inr e) = by_row (choose_some (past (codes "<") t) row_arg (plain_arg t) a e)
 
-    by_within : ((u : List ℕ) × (within_arg before u ≡ Some a)) ⊎ (choose (behind (codes "@") t) global_arg (choose (behind (codes "<") t) row_arg (plain_arg t)) ≡ Some a) → ArgFits a
+    by_within : ((u : List ℕ) × (within_arg before u ≡ Some a)) ⊎ (choose (past (codes "@") t) global_arg (choose (past (codes "<") t) row_arg (plain_arg t)) ≡ Some a) → ArgFits a
     by_within (inl r) = within_fits before r.0 a r.1
-    by_within (inr e) = by_global (choose_some (behind (codes "@") t) global_arg (choose (behind (codes "<") t) row_arg (plain_arg t)) a e)
+    by_within (inr e) = by_global (choose_some (past (codes "@") t) global_arg (choose (past (codes "<") t) row_arg (plain_arg t)) a e)
 
-    by_made : ((u : List ℕ) × (made_arg u ≡ Some a)) ⊎ (choose (behind (codes "arg:") t) (within_arg before) (choose (behind (codes "@") t) global_arg (choose (behind (codes "<") t) row_arg (plain_arg t))) ≡ Some a) → ArgFits a
+    by_made : ((u : List ℕ) × (made_arg u ≡ Some a)) ⊎ (choose (past (codes "arg:") t) (within_arg before) (choose (past (codes "@") t) global_arg (choose (past (codes "<") t) row_arg (plain_arg t))) ≡ Some a) → ArgFits a
     by_made (inl r) = made_fits r.0 a r.1
-    by_made (inr e) = by_within (choose_some (behind (codes "arg:") t) (within_arg before) (choose (behind (codes "@") t) global_arg (choose (behind (codes "<") t) row_arg (plain_arg t))) a e)
+    by_made (inr e) = by_within (choose_some (past (codes "arg:") t) (within_arg before) (choose (past (codes "@") t) global_arg (choose (past (codes "<") t) row_arg (plain_arg t))) a e)
 
 args_fit : (bound : List ℕ) (before : List Arg) (t : List ℕ) (args : List Arg) → Every ArgFits before → args_within bound before t ≡ Some args → Every ArgFits args
 args_fit [] before t args h e = absurd cc
@@ -328,7 +328,7 @@ row_lanes_fit n w Zero xs e =
     subst (λ (ys : List (Option ℕ)). (length ys ≡ n) × All (IsLane w) ys) (some_same (replicate n (Some 0)) xs e) (length-replicate n (Some 0), All-replicate (IsLane w) n (Some 0) (zero_lane w))
 row_lanes_fit n w (RowArg ls) xs e = by_test (nat_eq (length ls) n) refl e
   where
-    by_test : (b : Bool) → nat_eq (length ls) n ≡ b → cond b (lanes_behind w [] ls) None ≡ Some xs → (length xs ≡ n) × All (IsLane w) xs
+    by_test : (b : Bool) → nat_eq (length ls) n ≡ b → cond b (lanes_after w [] ls) None ≡ Some xs → (length xs ≡ n) × All (IsLane w) xs
     by_test true h e =
         let r = lanes_fit w [] ls xs tt e in
         let count = r.1 in
@@ -412,13 +412,13 @@ append_none [] = refl
 append_none (x ∷ xs) = ap (λ zs. x ∷ zs) (append_none xs)
 
 values_fit : (globals : List (List ℕ)) (next : ℕ) (before : List Value) (done ps : List Param) (args : List Arg) (vs : List Value) (objects : ℕ) → length globals ≤ next →
-    next + all_made args ≤ objects → Every (Names next) before → Every ArgFits args → Typed objects done before → values_behind globals next before ps args ≡ Some vs → Typed objects (done ++ ps) vs
+    next + all_made args ≤ objects → Every (Names next) before → Every ArgFits args → Typed objects done before → values_after globals next before ps args ≡ Some vs → Typed objects (done ++ ps) vs
 values_fit globals next before done [] [] vs objects few most h z typed e =
     subst (λ (qs : List Param). Typed objects qs vs) (sym (append_none done)) (subst (Typed objects done) (some_same before vs e) typed)
 values_fit globals next before done [] (a ∷ args) vs objects few most h z typed e = absurd cc
 values_fit globals next before done (p ∷ ps) [] vs objects few most h z typed e = absurd cc
 values_fit globals next before done (p ∷ ps) (a ∷ args) vs objects few most h z typed e =
-    let v = bind_some (value_in globals next before p.ty a) (λ v. values_behind globals (next + made_count a) (before ++ v ∷ []) ps args) vs e in
+    let v = bind_some (value_in globals next before p.ty a) (λ v. values_after globals (next + made_count a) (before ++ v ∷ []) ps args) vs e in
     let fits = value_fits globals next before p.ty a v.0 few h z.0 v.1 in
     subst (λ (qs : List Param). Typed objects qs vs) (append_one done p ps)
     (values_fit globals (next + made_count a) (before ++ v.0 ∷ []) (done ++ p ∷ []) ps args vs objects (omega arith) (omega arith)
@@ -427,7 +427,7 @@ values_fit globals next before done (p ∷ ps) (a ∷ args) vs objects few most 
 
 -- ---- memories
 
-made_length : (before : Memory) (args : List Arg) → length (made_behind before args) ≡ length before + all_made args
+made_length : (before : Memory) (args : List Arg) → length (made_after before args) ≡ length before + all_made args
 made_length before [] = omega arith
 made_length before (Made bytes ∷ args) = let rest = made_length (before ++ bytes ∷ []) args in let long = length-append before (bytes ∷ []) in omega arith
 made_length before (One l ∷ args) = let rest = made_length before args in omega arith
@@ -436,7 +436,7 @@ made_length before (RowArg ls ∷ args) = let rest = made_length before args in 
 made_length before (Within i d ∷ args) = let rest = made_length before args in omega arith
 made_length before (Global name d ∷ args) = let rest = made_length before args in omega arith
 
-made_objects : (before : Memory) (args : List Arg) → Every ObjectFits before → Every ArgFits args → Every ObjectFits (made_behind before args)
+made_objects : (before : Memory) (args : List Arg) → Every ObjectFits before → Every ArgFits args → Every ObjectFits (made_after before args)
 made_objects before [] h z = h
 made_objects before (Made bytes ∷ args) h z = made_objects (before ++ bytes ∷ []) args (every_push ObjectFits before bytes h z.0) z.1
 made_objects before (One l ∷ args) h z = made_objects before args h z.1
@@ -463,7 +463,7 @@ length_set (y ∷ xs) (suc k) x = ap suc (length_set xs k x)
 contents_fit : (w : List ℕ) (c : Contents) → contents_of w ≡ Some c → ObjectFits c.bytes
 unfolding contents_of
 contents_fit w c e =
-    let u = bind_some (behind (codes "@") w) (λ u. cut 61 u >>= (λ parts. name_of parts.0 >>= (λ name. bytes_of parts.1 >>= (λ bytes. Some (record { name = name; bytes = bytes }))))) c e in
+    let u = bind_some (past (codes "@") w) (λ u. cut 61 u >>= (λ parts. name_of parts.0 >>= (λ name. bytes_of parts.1 >>= (λ bytes. Some (record { name = name; bytes = bytes }))))) c e in
     let p = bind_some (cut 61 u.0) (λ parts. name_of parts.0 >>= (λ name. bytes_of parts.1 >>= (λ bytes. Some (record { name = name; bytes = bytes })))) c u.2 in
     let n = bind_some (name_of p.0.0) (λ name. bytes_of p.0.1 >>= (λ bytes. Some (record { name = name; bytes = bytes }))) c p.2 in
     let b = bind_some (bytes_of p.0.1) (λ bytes. Some (record { name = n.0; bytes = bytes })) c n.2 in
@@ -504,24 +504,24 @@ named_at name n (f ∷ fs) k e = by_test (bytes_eq f.name name) e (λ r. named_a
     by_test false e more = let r = more e in (suc r.0, (let c = r.1 in omega arith), r.2)
 
 called_fits : (m : Module) (c : Called) (w : List ℕ) (g : Given) → called_in m w ≡ Some c → Objects (length m.globals) g →
-    IsFit m (record { func = c.func; args = c.args; memory = made_behind g.memory c.made })
+    IsFit m (record { func = c.func; args = c.args; memory = made_after g.memory c.made })
 unfolding called_in
 called_fits m c w g e z =
-    let call = bind_some (call_of w) (λ call. named_from call.name 0 (functions_of m.items) >>= (λ found. values_behind m.globals (length m.globals) [] found.1.params call.args >>= (λ values.
+    let call = bind_some (call_of w) (λ call. named_from call.name 0 (functions_of m.items) >>= (λ found. values_after m.globals (length m.globals) [] found.1.params call.args >>= (λ values.
     Some (record { func = found.0; made = call.args; args = values })))) c e in
-    let found = bind_some (named_from call.0.name 0 (functions_of m.items)) (λ found. values_behind m.globals (length m.globals) [] found.1.params call.0.args >>= (λ values.
+    let found = bind_some (named_from call.0.name 0 (functions_of m.items)) (λ found. values_after m.globals (length m.globals) [] found.1.params call.0.args >>= (λ values.
     Some (record { func = found.0; made = call.0.args; args = values }))) c call.2 in
-    let values = bind_some (values_behind m.globals (length m.globals) [] found.0.1.params call.0.args) (λ values. Some (record { func = found.0.0; made = call.0.args; args = values })) c found.2 in
+    let values = bind_some (values_after m.globals (length m.globals) [] found.0.1.params call.0.args) (λ values. Some (record { func = found.0.0; made = call.0.args; args = values })) c found.2 in
     let at = named_at call.0.name 0 (functions_of m.items) found.0 found.1 in
     let long = made_length g.memory call.0.args in
     let many = z.many in
-    subst (λ (k : Called). IsFit m (record { func = k.func; args = k.args; memory = made_behind g.memory k.made })) (some_same (record { func = found.0.0; made = call.0.args; args = values.0 }) c values.2)
+    subst (λ (k : Called). IsFit m (record { func = k.func; args = k.args; memory = made_after g.memory k.made })) (some_same (record { func = found.0.0; made = call.0.args; args = values.0 }) c values.2)
     (record {
       func = found.0.1;
       found = ap (slice_get (functions_of m.items)) (at.1 ∙ omega arith) ∙ at.2;
       fits = record {
-        typed = values_fit m.globals (length m.globals) [] [] found.0.1.params call.0.args values.0 (length (made_behind g.memory call.0.args)) (omega arith) (omega arith) tt (call_fits w call.0 call.1) tt values.1;
-        objects = all_of_every ObjectFits (made_behind g.memory call.0.args) (made_objects g.memory call.0.args z.fits (call_fits w call.0 call.1));
+        typed = values_fit m.globals (length m.globals) [] [] found.0.1.params call.0.args values.0 (length (made_after g.memory call.0.args)) (omega arith) (omega arith) tt (call_fits w call.0 call.1) tt values.1;
+        objects = all_of_every ObjectFits (made_after g.memory call.0.args) (made_objects g.memory call.0.args z.fits (call_fits w call.0 call.1));
         globals = omega arith;
       };
     })
@@ -533,7 +533,7 @@ start_fits m (w ∷ ws) s e = by_call (called_in m w) refl e
     by_given : (c : Called) → called_in m w ≡ Some c → (g : Result Given ℕ) → with_words m.globals (untouched (length m.globals)) 1 ws ≡ g → started c g ≡ Ok s → IsFit m s
     by_given c f (Err at) h e = absurd cc
     by_given c f (Ok g) h e =
-        let same : record { func = c.func; args = c.args; memory = made_behind g.memory c.made } ≡ s = cc in
+        let same : record { func = c.func; args = c.args; memory = made_after g.memory c.made } ≡ s = cc in
         subst (IsFit m) same
         (called_fits m c w g f
         (words_objects m.globals (length m.globals) (untouched (length m.globals)) g 1 ws

@@ -8,7 +8,7 @@ use Rattle.vec_words.specs.Pieces.{cut, closed}
 use Rattle.vec_words.specs.Calls.{is_some, call_of, contents_of}
 use Rattle.vec_words.specs.Commands.{alone, bad_from, unless, with_call, with_bound, with_steps, run_of, command_of, IsFine, IsPlace}
 
--- where words are refused behind `n` others: their beginning up to the fault is one of words that hold, and with the fault it is none
+-- where words are refused after `n` others: their beginning up to the fault is one of words that hold, and with the fault it is none
 pub record Placed (read : List (List ℕ) → Result Command ℕ) (n : ℕ) (words : List (List ℕ)) (k : ℕ) : Type 0 where
   pub j : ℕ
   pub place : k ≡ n + j
@@ -23,10 +23,10 @@ at_once : (read : List (List ℕ) → Result Command ℕ) (n : ℕ) (words : Lis
     → (0 < length words → (rest : List (List ℕ)) → read (take 1 words ++ rest) ≡ Err k) → Placed read n words k
 at_once read n words k e more c f s = record { j = 0; place = omega arith; within = omega arith; more = more; command = c; fine = f; still = s }
 
--- behind one word more
-behind_one : (read next : List (List ℕ) → Result Command ℕ) (n : ℕ) (w : List ℕ) (ws : List (List ℕ)) (k : ℕ) → ((us : List (List ℕ)) → read (w ∷ us) ≡ next us)
+-- after one word more
+after_one : (read next : List (List ℕ) → Result Command ℕ) (n : ℕ) (w : List ℕ) (ws : List (List ℕ)) (k : ℕ) → ((us : List (List ℕ)) → read (w ∷ us) ≡ next us)
     → Placed next (suc n) ws k → Placed read n (w ∷ ws) k
-behind_one read next n w ws k e p = record {
+after_one read next n w ws k e p = record {
   j = suc p.j;
   place = omega arith;
   within = omega arith;
@@ -129,7 +129,7 @@ bound_case : (o : Option ℕ) (n : List ℕ) (ws : List (List ℕ)) (k : ℕ) �
 bound_case None n ws k t e =
     let same : k ≡ 2 = cc in
     at_once with_steps 2 (n ∷ ws) k same bound_words (Run 0 zero_words) bound_holds (λ h rest. ap (λ o. with_bound o rest) t ∙ e)
-bound_case (Some s) n ws k t e = behind_one with_steps (with_call s) 2 n ws k (λ us. ap (λ o. with_bound o us) t) (placed_call s ws k e)
+bound_case (Some s) n ws k t e = after_one with_steps (with_call s) 2 n ws k (λ us. ap (λ o. with_bound o us) t) (placed_call s ws k e)
 
 placed_steps : (ws : List (List ℕ)) (k : ℕ) → with_steps ws ≡ Err k → Placed with_steps 2 ws k
 placed_steps [] k e =
@@ -137,7 +137,7 @@ placed_steps [] k e =
     at_once with_steps 2 [] k same bound_words (Run 0 zero_words) bound_holds (λ h rest. absurd (omega arith))
 placed_steps (n ∷ ws) k e = bound_case (steps_of n) n ws k refl e
 
--- ---- behind `run`
+-- ---- after `run`
 
 abbrev pub option_words : List (List ℕ)
 option_words = codes "--steps" ∷ bound_words
@@ -149,7 +149,7 @@ option_case : (b : Bool) (o : List ℕ) (ws : List (List ℕ)) (k : ℕ) → byt
 option_case false o ws k t e =
     let same : k ≡ 1 = cc in
     at_once run_of 1 (o ∷ ws) k same option_words (Run 0 zero_words) option_holds (λ h rest. ap (λ b. cond b (with_steps rest) (Err 1)) t ∙ e)
-option_case true o ws k t e = behind_one run_of with_steps 1 o ws k (λ us. ap (λ b. cond b (with_steps us) (Err 1)) t) (placed_steps ws k e)
+option_case true o ws k t e = after_one run_of with_steps 1 o ws k (λ us. ap (λ b. cond b (with_steps us) (Err 1)) t) (placed_steps ws k e)
 
 placed_run : (ws : List (List ℕ)) (k : ℕ) → run_of ws ≡ Err k → Placed run_of 1 ws k
 placed_run [] k e =
@@ -159,7 +159,7 @@ placed_run (o ∷ ws) k e = option_case (bytes_eq o (codes "--steps")) o ws k re
 
 -- ---- all words
 
--- nothing may stand behind a command without words
+-- nothing may stand after a command without words
 placed_alone : (c : Command) (ws : List (List ℕ)) (k : ℕ) → alone c ws ≡ Err k → Placed (alone c) 1 ws k
 placed_alone c [] k e = cc
 placed_alone c (w ∷ ws) k e =
@@ -171,9 +171,9 @@ tests p o r ws = cond p (alone Print ws) (cond o (alone Opt ws) (cond r (run_of 
 
 command_case : (p o r : Bool) (w : List ℕ) (ws : List (List ℕ)) (k : ℕ) → ((us : List (List ℕ)) → command_of (w ∷ us) ≡ tests p o r us) → tests p o r ws ≡ Err k
     → Placed command_of 0 (w ∷ ws) k
-command_case true o r w ws k t e = behind_one command_of (alone Print) 0 w ws k t (placed_alone Print ws k e)
-command_case false true r w ws k t e = behind_one command_of (alone Opt) 0 w ws k t (placed_alone Opt ws k e)
-command_case false false true w ws k t e = behind_one command_of run_of 0 w ws k t (placed_run ws k e)
+command_case true o r w ws k t e = after_one command_of (alone Print) 0 w ws k t (placed_alone Print ws k e)
+command_case false true r w ws k t e = after_one command_of (alone Opt) 0 w ws k t (placed_alone Opt ws k e)
+command_case false false true w ws k t e = after_one command_of run_of 0 w ws k t (placed_run ws k e)
 command_case false false false w ws k t e =
     let same : k ≡ 0 = cc in
     at_once command_of 0 (w ∷ ws) k same (codes "print" ∷ []) Print refl (λ h rest. t rest ∙ e)

@@ -9,7 +9,7 @@ use Rattle.ir_model.specs.declared.value.Value.TheVariants.{Lane as LaneValue, R
 use Rattle.vec_words.specs.declared.literal.Lit.TheVariants.{Poison}
 use Rattle.vec_words.specs.declared.call.Arg.{Arg}
 use Rattle.vec_words.specs.declared.call.Arg.TheVariants.{One, Zero, Row as RowArg, Made, Within, Global}
-use Rattle.vec_words.specs.Literals.{lane_in, lanes_behind}
+use Rattle.vec_words.specs.Literals.{lane_in, lanes_after}
 
 -- the place of the first name that is this one, where the first of these has the place `at`
 abbrev pub place_from : ℕ → List (List ℕ) → List ℕ → Option ℕ
@@ -25,7 +25,7 @@ int_value w _ = None
 unfoldable pub row_lanes : ℕ → ℕ → Arg → Option (List (Option ℕ))
 row_lanes n w (One Poison) = Some (replicate n None)
 row_lanes n w Zero = Some (replicate n (Some 0))
-row_lanes n w (RowArg ls) = cond (nat_eq (length ls) n) (lanes_behind w [] ls) None
+row_lanes n w (RowArg ls) = cond (nat_eq (length ls) n) (lanes_after w [] ls) None
 row_lanes n w _ = None
 
 -- an offset in the object that a value points to
@@ -62,8 +62,8 @@ abbrev pub made_count : Arg → ℕ
 made_count (Made bytes) = 1
 made_count _ = 0
 
--- the values of arguments, one for each parameter, behind others
-abbrev pub values_behind : List (List ℕ) → ℕ → List Value → List Param → List Arg → Option (List Value)
-values_behind globals next before [] [] = Some before
-values_behind globals next before (p ∷ ps) (a ∷ rest) = value_in globals next before p.ty a >>= (λ v. values_behind globals (next + made_count a) (before ++ v ∷ []) ps rest)
-values_behind globals next before _ _ = None
+-- the values of arguments, one for each parameter, after others
+abbrev pub values_after : List (List ℕ) → ℕ → List Value → List Param → List Arg → Option (List Value)
+values_after globals next before [] [] = Some before
+values_after globals next before (p ∷ ps) (a ∷ rest) = value_in globals next before p.ty a >>= (λ v. values_after globals (next + made_count a) (before ++ v ∷ []) ps rest)
+values_after globals next before _ _ = None

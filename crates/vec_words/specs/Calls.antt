@@ -10,7 +10,7 @@ use Rattle.vec_words.specs.declared.call.Call.{Call}
 use Rattle.vec_words.specs.declared.global.Contents.{Contents}
 use Rattle.vec_words.specs.Answers.{choose}
 use Rattle.vec_words.specs.Numbers.{plain_of, offset_of}
-use Rattle.vec_words.specs.Pieces.{behind, cut, closed, piece, is_name, is_callable}
+use Rattle.vec_words.specs.Pieces.{past, cut, closed, piece, is_name, is_callable}
 use Rattle.vec_words.specs.Literals.{lit_of, signed_of}
 use Rattle.vec_words.specs.Hex.{bytes_of, byte_of, digit_of}
 
@@ -26,19 +26,19 @@ name_of t = when (is_name t) t
 abbrev pub callable_of : List ℕ → Option (List ℕ)
 callable_of t = when (is_callable t) t
 
--- literals behind others, with commas between; the bytes `bound` only count
+-- literals after others, with commas between; the bytes `bound` only count
 abbrev pub lits_within : List ℕ → List Lit → List ℕ → Option (List Lit)
 lits_within [] before t = None
 lits_within (_ ∷ bound) before t = lit_of (piece t).0 >>= (λ l. goes_on_with (piece t).1 (before ++ l ∷ []) (lits_within bound (before ++ l ∷ [])))
 
--- the lanes of a vector, of which there is one at least, behind their `<`
+-- the lanes of a vector, of which there is one at least, after their `<`
 unfoldable pub row_arg : List ℕ → Option Arg
 row_arg t = do
   inner ← closed 62 t
   ls ← lits_within inner [] inner
   Some (Row ls)
 
--- a new object, by its bytes behind `mem:`
+-- a new object, by its bytes after `mem:`
 unfoldable pub made_arg : List ℕ → Option Arg
 made_arg t = bytes_of t >>= (λ bytes. Some (Made bytes))
 
@@ -47,7 +47,7 @@ abbrev pub makes : Option Arg → Bool
 makes (Some (Made bytes)) = true
 makes _ = false
 
--- an offset in the object of an argument to the left, behind `arg:`
+-- an offset in the object of an argument to the left, after `arg:`
 unfoldable pub within_arg : List Arg → List ℕ → Option Arg
 within_arg before t = do
   parts ← cut 43 t
@@ -55,7 +55,7 @@ within_arg before t = do
   d ← offset_of parts.1
   when (makes (slice_get before i)) (Within i d)
 
--- an offset in the object of a global, behind `@`
+-- an offset in the object of a global, after `@`
 unfoldable pub global_arg : List ℕ → Option Arg
 global_arg t = do
   parts ← cut 43 t
@@ -70,12 +70,12 @@ plain_arg t = cond (bytes_eq t (codes "zeroinitializer")) (Some Zero) (lit_of t 
 -- an argument, where the arguments `before` stand to its left
 unfoldable pub arg_of : List Arg → List ℕ → Option Arg
 arg_of before t =
-    choose (behind (codes "mem:") t) made_arg
-    (choose (behind (codes "arg:") t) (within_arg before)
-    (choose (behind (codes "@") t) global_arg
-    (choose (behind (codes "<") t) row_arg (plain_arg t))))
+    choose (past (codes "mem:") t) made_arg
+    (choose (past (codes "arg:") t) (within_arg before)
+    (choose (past (codes "@") t) global_arg
+    (choose (past (codes "<") t) row_arg (plain_arg t))))
 
--- arguments behind others, with commas between; the bytes `bound` only count
+-- arguments after others, with commas between; the bytes `bound` only count
 abbrev pub args_within : List ℕ → List Arg → List ℕ → Option (List Arg)
 args_within [] before t = None
 args_within (_ ∷ bound) before t = arg_of before (piece t).0 >>= (λ a. goes_on_with (piece t).1 (before ++ a ∷ []) (args_within bound (before ++ a ∷ [])))
@@ -97,7 +97,7 @@ call_of t = do
 -- a global word: `@`, a name, `=` and bytes
 unfoldable pub contents_of : List ℕ → Option Contents
 contents_of t = do
-  u ← behind (codes "@") t
+  u ← past (codes "@") t
   parts ← cut 61 u
   name ← name_of parts.0
   bytes ← bytes_of parts.1

@@ -31,12 +31,12 @@ abbrev pub with_bound : Option ℕ → List (List ℕ) → Result Command ℕ
 with_bound None ws = Err 2
 with_bound (Some steps) ws = with_call steps ws
 
--- what stands behind `--steps`
+-- what stands after `--steps`
 abbrev pub with_steps : List (List ℕ) → Result Command ℕ
 with_steps [] = Err 2
 with_steps (n ∷ ws) = with_bound (steps_of n) ws
 
--- what stands behind `run`
+-- what stands after `run`
 abbrev pub run_of : List (List ℕ) → Result Command ℕ
 run_of [] = Err 1
 run_of (o ∷ ws) = cond (bytes_eq o (codes "--steps")) (with_steps ws) (Err 1)

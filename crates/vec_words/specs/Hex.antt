@@ -15,15 +15,15 @@ unfoldable pub pair_of : List ℕ → Option (Option ℕ × List ℕ)
 pair_of (a ∷ b ∷ t) = byte_of a b >>= (λ x. Some (x, t))
 pair_of _ = None
 
--- the bytes that a text says, behind others; the pairs may be none
-abbrev pub bytes_behind : List (Option ℕ) → List ℕ → Option (List (Option ℕ))
-bytes_behind before [] = Some before
-bytes_behind before (a ∷ []) = None
-bytes_behind before (a ∷ b ∷ t) = byte_of a b >>= (λ x. bytes_behind (before ++ x ∷ []) t)
+-- the bytes that a text says, after others; the pairs may be none
+abbrev pub bytes_after : List (Option ℕ) → List ℕ → Option (List (Option ℕ))
+bytes_after before [] = Some before
+bytes_after before (a ∷ []) = None
+bytes_after before (a ∷ b ∷ t) = byte_of a b >>= (λ x. bytes_after (before ++ x ∷ []) t)
 
 -- the bytes that a text says, where they are at most 2^47, as many as an object may have
 abbrev pub bytes_of : List ℕ → Option (List (Option ℕ))
-bytes_of t = cond (nat_lt 281474976710656 (length t)) None (bytes_behind [] t)
+bytes_of t = cond (nat_lt 281474976710656 (length t)) None (bytes_after [] t)
 
 -- the digit of a number below 16
 abbrev pub digit_text : ℕ → ℕ

@@ -5,7 +5,7 @@ use Rattle.vx_digits.specs.Optional.{◌>>=◌, when}
 use Rattle.vec_words.specs.declared.literal.Lit.{Lit}
 use Rattle.vec_words.specs.declared.literal.Lit.TheVariants.{Number, Truth, Poison}
 
--- a decimal behind a minus
+-- a decimal after a minus
 abbrev pub minus_of : List ℕ → Option Lit
 minus_of t = number_of t >>= (λ n. when (nat_le n (2 ^ 63)) (Number true n))
 
@@ -30,10 +30,10 @@ lane_in w Poison = Some None
 lane_in w (Truth b) = when (nat_eq w 1) (Some (cond b 1 0))
 lane_in w (Number minus n) = cond minus (negative w n) (fitting w n) >>= (λ x. Some (Some x))
 
--- the lanes of literals behind others
-abbrev pub lanes_behind : ℕ → List (Option ℕ) → List Lit → Option (List (Option ℕ))
-lanes_behind w before [] = Some before
-lanes_behind w before (l ∷ ls) = lane_in w l >>= (λ x. lanes_behind w (before ++ x ∷ []) ls)
+-- the lanes of literals after others
+abbrev pub lanes_after : ℕ → List (Option ℕ) → List Lit → Option (List (Option ℕ))
+lanes_after w before [] = Some before
+lanes_after w before (l ∷ ls) = lane_in w l >>= (λ x. lanes_after w (before ++ x ∷ []) ls)
 
 -- the lane of w bits that a text says
 abbrev pub said : ℕ → List ℕ → Option (Option ℕ)

@@ -29,23 +29,23 @@ pointer_text None = codes "poison"
 pointer_text (Some p) = codes "object " ++ (decimal p.0 ++ (codes " + " ++ offset_text p.1))
 
 -- the bits of a lane
-abbrev pub bits_of : Ty → ℕ
-bits_of Void = 64
-bits_of (Int w) = w
-bits_of Ptr = 64
-bits_of (Row n w) = w
+abbrev pub shown_bits : Ty → ℕ
+shown_bits Void = 64
+shown_bits (Int w) = w
+shown_bits Ptr = 64
+shown_bits (Row n w) = w
 
 -- a value of a type; a vector always as the list of its lanes
 abbrev pub value_text : Ty → Value → List ℕ
-value_text ret (LaneValue l) = lane_text (bits_of ret) l
-value_text ret (RowValue ls) = codes "<" ++ (lanes_text (bits_of ret) ls ++ codes ">")
+value_text ret (LaneValue l) = lane_text (shown_bits ret) l
+value_text ret (RowValue ls) = codes "<" ++ (lanes_text (shown_bits ret) ls ++ codes ">")
 value_text ret (PtrValue p) = pointer_text p
 
 abbrev pub returned_text : Ty → Option Value → List ℕ
 returned_text ret None = codes "void"
 returned_text ret (Some v) = value_text ret v
 
--- the bytes of an object behind a space, if there are any
+-- the bytes of an object after a space, if there are any
 abbrev pub contents_text : List (Option ℕ) → List ℕ
 contents_text [] = []
 contents_text (b ∷ bs) = codes " " ++ bytes_text (b ∷ bs)

@@ -1,21 +1,21 @@
--- How a word falls into pieces: what stands behind a front, round a byte, before a last byte, between commas; and names.
+-- How a word falls into pieces: what stands after a front, round a byte, before a last byte, between commas; and names.
 use Rattle.std.specs.Prelude.{◌≡◌, refl, ℕ, suc, ◌+◌, ◌-◌, Bool, true, false, not, ◌&&◌, ◌||◌, cond, Option, Some, None, List, [], ◌∷◌, length, take, drop, slice_index, nat_eq, nat_lt, codes}
 use Rattle.std.specs.Char.{is_ascii_digit, is_ascii_alphabetic}
 use Rattle.std.specs.List.{list_all}
 use Rattle.vx_digits.specs.Optional.{when}
 
 -- what follows a front
-abbrev pub behind : List ℕ → List ℕ → Option (List ℕ)
-behind [] t = Some t
-behind (p ∷ ps) [] = None
-behind (p ∷ ps) (b ∷ bs) = cond (nat_eq b p) (behind ps bs) None
+abbrev pub past : List ℕ → List ℕ → Option (List ℕ)
+past [] t = Some t
+past (p ∷ ps) [] = None
+past (p ∷ ps) (b ∷ bs) = cond (nat_eq b p) (past ps bs) None
 
 -- how many bytes stand before the first that is `b`
 abbrev pub len_to : ℕ → List ℕ → ℕ
 len_to b [] = 0
 len_to b (x ∷ xs) = cond (nat_eq x b) 0 (suc (len_to b xs))
 
--- what stands before and behind the first byte that is `b`, if there is one
+-- what stands before and after the first byte that is `b`, if there is one
 unfoldable pub cut : ℕ → List ℕ → Option (List ℕ × List ℕ)
 cut b t = when (nat_lt (len_to b t) (length t)) (take (len_to b t) t, drop (len_to b t + 1) t)
 
@@ -32,7 +32,7 @@ abbrev pub piece_len : Bool → List ℕ → ℕ
 piece_len inside [] = 0
 piece_len inside (b ∷ bs) = cond (nat_eq b 44 && not inside) 0 (suc (piece_len (inside_after inside b) bs))
 
--- what stands before that comma, and what stands behind it if there is one
+-- what stands before that comma, and what stands after it if there is one
 unfoldable pub piece : List ℕ → List ℕ × Option (List ℕ)
 piece t = (take (piece_len false t) t, when (nat_lt (piece_len false t) (length t)) (drop (piece_len false t + 1) t))
 

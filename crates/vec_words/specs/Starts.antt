@@ -1,4 +1,4 @@
--- How a run starts: the function, its arguments and the memory that the words behind the options say.
+-- How a run starts: the function, its arguments and the memory that the words after the options say.
 -- Objects are numbered: those of the globals in the module's order, and then those that arguments make, in order.
 use Rattle.std.specs.Prelude.{◌≡◌, ℕ, suc, cond, Option, Some, None, Result, Ok, Err, List, [], ◌∷◌, ◌++◌, length, bytes_eq, slice_get}
 use Rattle.vx_digits.specs.Optional.{◌>>=◌}
@@ -12,7 +12,7 @@ use Rattle.vec_words.specs.declared.global.Given.{Given}
 use Rattle.vec_words.specs.declared.starts.Start.{Start}
 use Rattle.vec_words.specs.declared.run_words.Called.{Called}
 use Rattle.vec_words.specs.Calls.{call_of}
-use Rattle.vec_words.specs.Arguments.{values_behind}
+use Rattle.vec_words.specs.Arguments.{values_after}
 use Rattle.vec_words.specs.Globals.{untouched, with_words}
 
 -- the first function of a name with its number, where the first of these has the number `n`
@@ -20,23 +20,23 @@ abbrev pub named_from : List ℕ → ℕ → List Func → Option (ℕ × Func)
 named_from name n [] = None
 named_from name n (f ∷ fs) = cond (bytes_eq f.name name) (Some (n, f)) (named_from name (suc n) fs)
 
--- the objects behind others that arguments make
-abbrev pub made_behind : List (List (Option ℕ)) → List Arg → List (List (Option ℕ))
-made_behind before [] = before
-made_behind before (Made bytes ∷ rest) = made_behind (before ++ bytes ∷ []) rest
-made_behind before (_ ∷ rest) = made_behind before rest
+-- the objects after others that arguments make
+abbrev pub made_after : List (List (Option ℕ)) → List Arg → List (List (Option ℕ))
+made_after before [] = before
+made_after before (Made bytes ∷ rest) = made_after (before ++ bytes ∷ []) rest
+made_after before (_ ∷ rest) = made_after before rest
 
 -- what a call word says, where it fits the module
 unfoldable pub called_in : Module → List ℕ → Option Called
 called_in m w = do
   call ← call_of w
   found ← named_from call.name 0 (functions_of m.items)
-  values ← values_behind m.globals (length m.globals) [] found.1.params call.args
+  values ← values_after m.globals (length m.globals) [] found.1.params call.args
   Some (record { func = found.0; made = call.args; args = values })
 
 abbrev pub started : Called → Result Given ℕ → Result Start ℕ
 started c (Err at) = Err at
-started c (Ok g) = Ok (record { func = c.func; args = c.args; memory = made_behind g.memory c.made })
+started c (Ok g) = Ok (record { func = c.func; args = c.args; memory = made_after g.memory c.made })
 
 abbrev pub start_called : Module → List (List ℕ) → Option Called → Result Start ℕ
 start_called m ws None = Err 0

@@ -2,7 +2,7 @@
 //!
 //! `values` stops where an argument does not fit its parameter, or there are not as many.
 
-ghost use Rattle.std.specs.Prelude.{◌≡◌, ◌+◌, IfOk, Some, [], replicate, length, slice_get};
+ghost use Rattle.std.specs.Prelude.{◌≡◌, ◌+◌, IfOk, Some, [], length, slice_get};
 ghost use Rattle.vec_words.specs.Answers.{Gives};
 ghost use Rattle.vec_words.specs.Arguments as arguments;
 
@@ -12,7 +12,7 @@ use crate::literal::{Lit, lane_in, lanes_in};
 use crate::refusal::{Stop, counted};
 use ir_model::{Value, Values};
 use ir_types::{Bytes, Lits, Param, Ty};
-use std::alloc::{AllocError, Global};
+use std::alloc::Global;
 use vx_num::Lane;
 
 /// An integer of `w` bits.
@@ -26,25 +26,14 @@ fn int_value(w: u8, arg: &Arg) -> Result<Value, Stop>
     }
 }
 
-/// The same lane so many times.
-fn repeated(alloc: Global, n: u8, lane: Lane) -> Result<Lits, AllocError>
-    ensures { IfOk result (λ x. x ≡ replicate n lane) }
-{
-    let mut lanes = Lits::new(alloc);
-    'each: for _ in 0..n {
-        lanes.push(lane)?;
-    }
-    Ok(lanes)
-}
-
 /// The lanes of a vector of `n` lanes of `w` bits.
 #[tactic(auto, unfolding(crate::specs::Arguments::row_lanes))]
 fn row_lanes(alloc: Global, n: u8, w: u8, arg: &Arg) -> Result<Lits, Stop>
     ensures { Gives (λ x. x) result (arguments.row_lanes n w arg.now) }
 {
     match arg {
-        Arg::One(Lit::Poison) => Ok(repeated(alloc, n, None)?),
-        Arg::Zero => Ok(repeated(alloc, n, Some(0))?),
+        Arg::One(Lit::Poison) => Ok(Lits::repeated(alloc, n, None)?),
+        Arg::Zero => Ok(Lits::repeated(alloc, n, Some(0))?),
         Arg::Row(lits) if lits.len() == n as usize => lanes_in(alloc, w, lits.as_slice()),
         _ => Err(Stop::Unfit),
     }
@@ -127,7 +116,7 @@ pub(crate) fn values(
     params: &[Param],
     args: &[Arg],
 ) -> Result<Values, Stop>
-    ensures { Gives (λ x. x) result (arguments.values_behind globals.now (length globals.now) [] params.now args.now) }
+    ensures { Gives (λ x. x) result (arguments.values_after globals.now (length globals.now) [] params.now args.now) }
 {
     let mut found = Values::new(alloc);
     let mut next = globals.len();

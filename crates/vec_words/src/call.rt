@@ -9,7 +9,7 @@ ghost use Rattle.vec_words.specs.Calls as calls;
 use crate::hex::bytes;
 use crate::literal::{Lit, literal};
 use crate::numbers::{offset, plain};
-use crate::pieces::{behind, closed, cut, is, is_callable, is_name, piece};
+use crate::pieces::{closed, cut, is_callable, is_name, past, piece, same_text};
 use crate::refusal::Stop;
 use ir_model::Object;
 use ir_types::Bytes;
@@ -88,7 +88,7 @@ fn lits(alloc: Global, text: &[u8]) -> Result<Seq<Lit>, Stop>
     Err(Stop::Unfit)
 }
 
-/// The lanes of a vector behind their `<`.
+/// The lanes of a vector after their `<`.
 #[tactic(auto, unfolding(crate::specs::Calls::row_arg))]
 fn row(alloc: Global, text: &[u8]) -> Result<Arg, Stop>
     ensures { Gives (λ x. x) result (calls.row_arg text.now) }
@@ -145,7 +145,7 @@ fn global(alloc: Global, text: &[u8]) -> Result<Arg, Stop>
 fn plain_arg(text: &[u8]) -> Result<Arg, Stop>
     ensures { Gives (λ x. x) result (calls.plain_arg text.now) }
 {
-    if is(text, b"zeroinitializer") {
+    if same_text(text, b"zeroinitializer") {
         return Ok(Arg::Zero);
     }
     Ok(Arg::One(literal(text).ok_or(Stop::Unfit)?))
@@ -156,16 +156,16 @@ fn plain_arg(text: &[u8]) -> Result<Arg, Stop>
 fn argument(alloc: Global, before: &[Arg], text: &[u8]) -> Result<Arg, Stop>
     ensures { Gives (λ x. x) result (calls.arg_of before.now text.now) }
 {
-    if let Some(hex) = behind(b"mem:", text) {
+    if let Some(hex) = past(b"mem:", text) {
         return made(alloc, hex);
     }
-    if let Some(rest) = behind(b"arg:", text) {
+    if let Some(rest) = past(b"arg:", text) {
         return within(before, rest);
     }
-    if let Some(rest) = behind(b"@", text) {
+    if let Some(rest) = past(b"@", text) {
         return global(alloc, rest);
     }
-    if let Some(rest) = behind(b"<", text) {
+    if let Some(rest) = past(b"<", text) {
         return row(alloc, rest);
     }
     plain_arg(text)

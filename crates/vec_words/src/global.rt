@@ -12,7 +12,7 @@ ghost use Rattle.vec_words.specs.Globals as globals;
 use crate::WordsRefusal;
 use crate::call::name;
 use crate::hex::bytes;
-use crate::pieces::{behind, cut, is};
+use crate::pieces::{cut, past, same_text};
 use crate::refusal::{Stop, refused};
 use ir_model::{Memory, Object};
 use ir_types::Bytes;
@@ -38,7 +38,7 @@ pub(crate) struct Given {
 pub(crate) fn global_word(alloc: Global, word: &[u8]) -> Result<Contents, Stop>
     ensures { Gives (λ x. x) result (calls.contents_of word.now) }
 {
-    let rest = behind(b"@", word).ok_or(Stop::Unfit)?;
+    let rest = past(b"@", word).ok_or(Stop::Unfit)?;
     let (name_text, hex) = cut(b'=', rest).ok_or(Stop::Unfit)?;
     let name = name(alloc, name_text)?;
     let bytes = bytes(alloc, hex)?;
@@ -52,7 +52,7 @@ pub(crate) fn place_in(names: &[Bytes], name: &[u8]) -> Option<usize>
     let mut place: usize = 0;
     let mut rest = names;
     'each: while let [first, more @ ..] = rest {
-        if is(first.as_slice(), name) {
+        if same_text(first.as_slice(), name) {
             return Some(place);
         }
         place += 1;

@@ -1,6 +1,6 @@
 //! Bytes as pairs of hexadecimal digits, and `??` for poison: `bytes` reads them, `push_bytes` writes them.
 //!
-//! Reading stops at what is no pair. Writing fails for want of memory alone, and may leave a part of the text behind.
+//! Reading stops at what is no pair. Writing fails for want of memory alone, and may leave a part of the text after.
 
 ghost use Rattle.std.specs.Prelude.{◌≡◌, ◌++◌, ◌<◌, IfOk, IfSome, OnOk, [], length};
 ghost use Rattle.vec_words.specs.Answers.{Gives};
@@ -57,7 +57,7 @@ fn pair(text: &[u8]) -> Result<(Option<u8>, &[u8]), Stop>
 /// The bytes that a text says, however many.
 #[tactic(auto, using(crate::proofs::Pairs::pair_first, crate::proofs::Pairs::pair_none))]
 fn all_bytes(alloc: Global, text: &[u8]) -> Result<Object, Stop>
-    ensures { Gives (λ x. x) result (hex.bytes_behind [] text.now) }
+    ensures { Gives (λ x. x) result (hex.bytes_after [] text.now) }
 {
     let mut found = Object::new(alloc);
     let mut rest = text;
@@ -98,7 +98,7 @@ fn push_byte(out: &mut Vec<u8>, byte: Option<u8>) -> Result<(), AllocError>
     Ok(())
 }
 
-/// Bytes one behind the other.
+/// Bytes one after the other.
 pub(crate) fn push_bytes(out: &mut Vec<u8>, bytes: &[Option<u8>]) -> Result<(), AllocError>
     ensures { OnOk result (out.new.items ≡ out.old.items ++ hex.bytes_text bytes.now) }
 {

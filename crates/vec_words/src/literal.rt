@@ -7,7 +7,7 @@ ghost use Rattle.vx_digits.specs.Optional.{when};
 ghost use Rattle.vec_words.specs.Answers.{Gives};
 ghost use Rattle.vec_words.specs.Literals as literals;
 
-use crate::pieces::is;
+use crate::pieces::same_text;
 use crate::refusal::Stop;
 use ir_types::Lits;
 use std::alloc::Global;
@@ -25,7 +25,7 @@ pub(crate) enum Lit {
     Poison,
 }
 
-/// A decimal behind a minus.
+/// A decimal after a minus.
 fn below_zero(digits: &[u8]) -> Option<Lit>
     ensures { result ≡ literals.minus_of digits.now }
 {
@@ -57,13 +57,13 @@ fn signed(text: &[u8]) -> Option<Lit>
 pub(crate) fn literal(text: &[u8]) -> Option<Lit>
     ensures { result ≡ literals.lit_of text.now }
 {
-    if is(text, b"poison") {
+    if same_text(text, b"poison") {
         return Some(Lit::Poison);
     }
-    if is(text, b"true") {
+    if same_text(text, b"true") {
         return Some(Lit::Truth(true));
     }
-    if is(text, b"false") {
+    if same_text(text, b"false") {
         return Some(Lit::Truth(false));
     }
     signed(text)
@@ -96,7 +96,7 @@ pub(crate) fn lane_in(w: u8, lit: Lit) -> Option<Lane>
 
 /// The lanes of `w` bits that literals are.
 pub(crate) fn lanes_in(alloc: Global, w: u8, lits: &[Lit]) -> Result<Lits, Stop>
-    ensures { Gives (λ x. x) result (literals.lanes_behind w [] lits.now) }
+    ensures { Gives (λ x. x) result (literals.lanes_after w [] lits.now) }
 {
     let mut lanes = Lits::new(alloc);
     let mut rest = lits;

@@ -1,6 +1,6 @@
 //! The text of an outcome: one line, and then a line for each object.
 //!
-//! `outcome_text` is the one entry point; want of memory is its only failure. What is written is put behind what is there.
+//! `outcome_text` is the one entry point; want of memory is its only failure. What is written is put after what is there.
 
 ghost use Rattle.std.specs.Prelude.{◌≡◌, ◌-◌, ◌^◌, ◌≤◌, ◌++◌, IfOk, OnOk, codes, nat_eq, nat_lt, if◌then◌else◌, false, suc, ℤ};
 ghost use Rattle.std.specs.Fmt.{decimal};
@@ -13,7 +13,7 @@ use std::alloc::{AllocError, Global};
 use vx_digits::{push_decimal, push_lane};
 use vx_num::Lane;
 
-/// Lanes behind the first.
+/// Lanes after the first.
 fn push_more_lanes(out: &mut Vec<u8>, w: u8, lanes: &[Lane]) -> Result<(), AllocError>
     ensures { OnOk result (out.new.items ≡ out.old.items ++ outcomes.more_lanes_text w lanes.now) }
 {
@@ -82,8 +82,8 @@ fn push_row(out: &mut Vec<u8>, w: u8, lanes: &[Lane]) -> Result<(), AllocError>
 }
 
 /// The bits of a lane.
-fn bits_of(ty: Ty) -> u8
-    ensures { result ≡ outcomes.bits_of ty }
+fn shown_bits(ty: Ty) -> u8
+    ensures { result ≡ outcomes.shown_bits ty }
 {
     match ty {
         Ty::Int(w) => w,
@@ -97,8 +97,8 @@ fn push_value(out: &mut Vec<u8>, ret: Ty, value: &Value) -> Result<(), AllocErro
     ensures { OnOk result (out.new.items ≡ out.old.items ++ outcomes.value_text ret value.now) }
 {
     match value {
-        Value::Lane(lane) => push_lane(out, bits_of(ret), *lane),
-        Value::Row(lanes) => push_row(out, bits_of(ret), lanes.as_lanes().as_slice()),
+        Value::Lane(lane) => push_lane(out, shown_bits(ret), *lane),
+        Value::Row(lanes) => push_row(out, shown_bits(ret), lanes.as_lanes().as_slice()),
         Value::Ptr(pointer) => push_pointer(out, *pointer),
     }
 }
@@ -114,7 +114,7 @@ fn push_returned(out: &mut Vec<u8>, ret: Ty, value: &Option<Value>) -> Result<()
     Ok(())
 }
 
-/// The bytes of an object behind a space, if there are any.
+/// The bytes of an object after a space, if there are any.
 fn push_contents(out: &mut Vec<u8>, bytes: &[Option<u8>]) -> Result<(), AllocError>
     ensures { OnOk result (out.new.items ≡ out.old.items ++ outcomes.contents_text bytes.now) }
 {

@@ -1,4 +1,4 @@
-//! Pieces of a word: what stands behind a front, round a byte, before a last byte, between commas; and names.
+//! Pieces of a word: what stands after a front, round a byte, before a last byte, between commas; and names.
 //!
 //! Nothing is copied. A part that is not there is none.
 
@@ -7,16 +7,16 @@ ghost use Rattle.std.specs.List.{list_all};
 ghost use Rattle.vec_words.specs.Pieces as pieces;
 
 /// Whether two texts are the same.
-pub(crate) fn is(text: &[u8], other: &[u8]) -> bool
-    ensures { result ≡ bytes_eq text.now other.now }
+pub(crate) fn same_text(text: &[u8], wanted: &[u8]) -> bool
+    ensures { result ≡ bytes_eq text.now wanted.now }
 {
-    text == other
+    text == wanted
 }
 
 /// What follows a front.
-pub(crate) fn behind<'a>(front: &[u8], text: &'a [u8]) -> Option<&'a [u8]>
-    ensures found { IfSome result (λ rest. pieces.behind front.now text.now ≡ Some rest.now) }
-    ensures none { IfNone result (pieces.behind front.now text.now ≡ None) }
+pub(crate) fn past<'a>(front: &[u8], text: &'a [u8]) -> Option<&'a [u8]>
+    ensures found { IfSome result (λ rest. pieces.past front.now text.now ≡ Some rest.now) }
+    ensures none { IfNone result (pieces.past front.now text.now ≡ None) }
 {
     let mut wanted = front;
     let mut rest = text;
@@ -50,7 +50,7 @@ fn len_to(byte: u8, text: &[u8]) -> usize
     count
 }
 
-/// What stands before and behind the first byte that is `byte`.
+/// What stands before and after the first byte that is `byte`.
 #[tactic(auto, unfolding(crate::specs::Pieces::cut))]
 pub(crate) fn cut(byte: u8, text: &[u8]) -> Option<(&[u8], &[u8])>
     ensures found { IfSome result (λ parts. pieces.cut byte text.now ≡ Some (parts.0.now, parts.1.now)) }
@@ -111,7 +111,7 @@ fn piece_len(text: &[u8]) -> usize
     count
 }
 
-/// What stands before that comma, and what stands behind it if there is one.
+/// What stands before that comma, and what stands after it if there is one.
 #[tactic(auto, unfolding(crate::specs::Pieces::piece))]
 pub(crate) fn piece(text: &[u8]) -> (&[u8], Option<&[u8]>)
     ensures front { result.0.now ≡ (pieces.piece text.now).0 }

@@ -12,7 +12,7 @@ ghost use Rattle.vec_words.specs.Starts as starts;
 use crate::arguments::values;
 use crate::call::{Arg, call_word};
 use crate::global::objects;
-use crate::pieces::is;
+use crate::pieces::same_text;
 use crate::refusal::{Stop, counted, refused};
 use crate::{Start, WordsRefusal};
 use ir_model::{Memory, Values};
@@ -37,7 +37,7 @@ fn named<'a>(name: &[u8], items: &'a [Item]) -> Result<(u32, &'a Func), Stop>
     let mut rest = items;
     'each: while let [item, more @ ..] = rest {
         if let Item::Func(func) = item {
-            if is(func.name.as_slice(), name) {
+            if same_text(func.name.as_slice(), name) {
                 return Ok((counted(number)?, func));
             }
             number += 1;
@@ -67,9 +67,9 @@ fn fitted(alloc: Global, m: &Module, word: &[u8]) -> Result<Called, Stop>
     })
 }
 
-/// The objects behind others that arguments make.
+/// The objects after others that arguments make.
 fn with_made(alloc: Global, memory: Memory, args: &[Arg]) -> Result<Memory, AllocError>
-    ensures { IfOk result (λ x. x ≡ starts.made_behind memory args.now) }
+    ensures { IfOk result (λ x. x ≡ starts.made_after memory args.now) }
 {
     let mut memory = memory;
     let mut rest = args;
@@ -97,7 +97,7 @@ fn started(
     Ok(Start { func, args, memory })
 }
 
-/// The start of a run that the words of `run` say behind its options: a call word, and then global words.
+/// The start of a run that the words of `run` say after its options: a call word, and then global words.
 ///
 /// Refusals: `Word` with the place, from 0, of the first word that does not fit the module, which is 0 where there is no word;
 /// `OutOfMemory`.

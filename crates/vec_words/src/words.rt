@@ -11,7 +11,7 @@ ghost use Rattle.vec_words.specs.Commands as commands;
 use crate::call::{call_word, copied};
 use crate::global::global_word;
 use crate::numbers::steps;
-use crate::pieces::is;
+use crate::pieces::same_text;
 use crate::refusal::{Stop, refused};
 use crate::{Command, WordsRefusal};
 use ir_types::Names;
@@ -34,13 +34,13 @@ pub fn command(alloc: Global, words: &[String]) -> Result<Command, WordsRefusal>
 fn named(alloc: Global, name: &[u8], rest: &[String]) -> Result<Command, WordsRefusal>
     ensures { Answers result (commands.command_of (name.now ∷ map string_bytes rest.now)) }
 {
-    if is(name, b"print") {
+    if same_text(name, b"print") {
         return alone(Command::Print, rest);
     }
-    if is(name, b"opt") {
+    if same_text(name, b"opt") {
         return alone(Command::Opt, rest);
     }
-    if is(name, b"run") {
+    if same_text(name, b"run") {
         return run(alloc, rest);
     }
     refused(0)
@@ -56,17 +56,17 @@ fn alone(command: Command, rest: &[String]) -> Result<Command, WordsRefusal>
     }
 }
 
-/// What stands behind `run`.
+/// What stands after `run`.
 fn run(alloc: Global, rest: &[String]) -> Result<Command, WordsRefusal>
     ensures { Answers result (commands.run_of (map string_bytes rest.now)) }
 {
     match rest {
-        [option, rest @ ..] if is(option.as_bytes(), b"--steps") => with_steps(alloc, rest),
+        [option, rest @ ..] if same_text(option.as_bytes(), b"--steps") => with_steps(alloc, rest),
         _ => refused(1),
     }
 }
 
-/// What stands behind `--steps`.
+/// What stands after `--steps`.
 fn with_steps(alloc: Global, rest: &[String]) -> Result<Command, WordsRefusal>
     ensures { Answers result (commands.with_steps (map string_bytes rest.now)) }
 {

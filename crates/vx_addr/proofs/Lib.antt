@@ -1,5 +1,5 @@
 pub mod Lookups
 pub mod Steps
-pub mod Behind
+pub mod After
 pub mod Pairs
 pub mod Comparing

@@ -16,7 +16,7 @@ ghost use Rattle.vx_view.specs.Views.{StandsFor, IsAskable, Asks};
 ghost use Rattle.vx_addr.specs.Parts.{as_form, where_of, paired};
 ghost use Rattle.vx_addr.specs.Walks.{Names, on_walks, on_access, conflict_names};
 
-use crate::access::access_of;
+use crate::access::{Access, access_of};
 use crate::address::Form;
 use crate::forms::form_at;
 use crate::kind::{kind_of, never_meet};
@@ -132,30 +132,28 @@ fn meet<V: View>(
 {
     match (access_of(first), access_of(second)) {
         (Some(a), Some(b)) if a.writes || b.writes => {
-            let apart = pointers_apart(alloc, view, place, a.pointer, a.size, b.pointer, b.size)?;
+            let apart = accesses_apart(alloc, view, place, &a, &b)?;
             Ok(!apart)
         }
         _ => Ok(false),
     }
 }
 
-/// Whether accesses of two sizes through two pointers of a block are apart.
-fn pointers_apart<V: View>(
+/// Whether two accesses of a block are apart.
+fn accesses_apart<V: View>(
     alloc: Global,
     view: &mut V,
     place: Place,
-    a: &Opd,
-    first: u16,
-    b: &Opd,
-    second: u16,
+    a: &Access,
+    b: &Access,
 ) -> Result<bool, OutOfMemory>
     requires { IsAskable (V.seen view.old) }
-    ensures is { IfOk result (λ apart. (m : Module) → StandsFor (V.seen view.new) m → IsFormed m → apart ≡ view_of.is_apart m (form_in (block_at m place) a.now) first (form_in (block_at m place) b.now) second) }
-    ensures asks { Asks (λ m. Names (λ x. on_walks (block_at m place) a.now x || on_walks (block_at m place) b.now x)) (V.seen view.old) (V.seen view.new) }
+    ensures is { IfOk result (λ apart. (m : Module) → StandsFor (V.seen view.new) m → IsFormed m → apart ≡ view_of.is_apart m (form_in (block_at m place) a.now.pointer.now) a.now.size (form_in (block_at m place) b.now.pointer.now) b.now.size) }
+    ensures asks { Asks (λ m. Names (λ x. on_walks (block_at m place) a.now.pointer.now x || on_walks (block_at m place) b.now.pointer.now x)) (V.seen view.old) (V.seen view.new) }
 {
-    let one = form_at(alloc, view, place, a)?;
-    let other = form_at(alloc, view, place, b)?;
-    let apart = is_apart(view, &one, first, &other, second)?;
+    let one = form_at(alloc, view, place, a.pointer)?;
+    let other = form_at(alloc, view, place, b.pointer)?;
+    let apart = is_apart(view, &one, a.size, &other, b.size)?;
     Ok(apart)
 }
 
@@ -207,7 +205,7 @@ fn is_apart<V: View>(
     roots_never_meet(view, &a.root, &b.root)
 }
 
-/// How far the second lies behind the first, modulo 2^64 as a signed number.
+/// How far the second lies after the first, modulo 2^64 as a signed number.
 fn distance(first: i64, second: i64) -> i64
     ensures { result ≡ int_wrap w64 (second -ℤ first) }
 {

@@ -1,6 +1,6 @@
 //! `push_decimal` and `push_lane`: a number, and a lane of so many bits, put after what is written already.
 //!
-//! Want of memory is the only failure, and may leave a part of the text behind.
+//! Want of memory is the only failure, and may leave a part of the text after.
 
 ghost use Rattle.std.specs.Prelude.{◌≡◌, ◌-◌, ◌^◌, ◌≤◌, ◌++◌, OnOk, codes, nat_eq, nat_lt, if◌then◌else◌, false};
 ghost use Rattle.std.specs.Fmt.{decimal};

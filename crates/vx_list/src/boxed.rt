@@ -1,6 +1,6 @@
 //! `Boxed`: one value in an allocation of its own.
 //!
-//! Contracts see it as the value, so that a large part of an enum can stand behind a pointer without a change in what is said of it.
+//! Contracts see it as the value, so that a large part of an enum can stand after a pointer without a change in what is said of it.
 //! Making one takes memory; nothing else here fails but copying.
 
 ghost use Rattle.std.specs.Prelude.{◌≡◌, IfOk};

@@ -3,7 +3,7 @@
 //! `Seq` keeps its items in one allocation; `Short` keeps a few inline, for operands and lanes. The value of both, in every
 //! contract, is the plain list of their items. `Text` is a list of bytes that keeps short
 //! ones in place. `Roomy` is the list whose contracts speak of its room too, and `Boxed` a value
-//! behind a pointer. `TryClone` says that a copy is the same value, `Equal` that the answer is equality.
+//! after a pointer. `TryClone` says that a copy is the same value, `Equal` that the answer is equality.
 #![tactic(auto)]
 
 mod boxed;

@@ -1,7 +1,7 @@
 //! `Text`: bytes, of which up to 22 lie in place.
 //!
 //! Contracts see it as the list of its bytes, as a `Seq<u8>`. It is for names and other short texts, which then take no memory and
-//! are copied in one piece; a longer text stands behind a pointer. A `Text` is no larger than a `Seq`. Nothing here fails but for
+//! are copied in one piece; a longer text stands after a pointer. A `Text` is no larger than a `Seq`. Nothing here fails but for
 //! want of memory.
 
 ghost use Rattle.std.specs.Prelude.{◌≡◌, ◌==◌, ◌≤◌, ◌∷◌, ◌++◌, [], length, slice_get, IfOk, OnOk, OnErr};
@@ -61,7 +61,7 @@ fn short(bytes: &[u8]) -> Kept
     }
 }
 
-/// Bytes with one more, behind a pointer.
+/// Bytes with one more, after a pointer.
 fn long(alloc: Global, bytes: &[u8], more: u8) -> Result<Kept, AllocError>
     ensures kept { IfOk result IsKept }
     ensures value { IfOk result (λ kept. kept_bytes kept ≡ bytes.now ++ more ∷ []) }
@@ -173,7 +173,7 @@ impl Text {
         Text::from_long(alloc, Seq::from_vec(bytes))
     }
 
-    /// The text of a list's bytes, behind a pointer.
+    /// The text of a list's bytes, after a pointer.
     fn from_long(alloc: Global, list: Seq<u8>) -> Result<Text, AllocError>
         ensures { IfOk result (λ text. text ≡ list) }
     {

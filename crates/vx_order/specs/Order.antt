@@ -13,7 +13,7 @@ is_ready links placed v = not (has placed v) && list_all (λ l. not (l.1 == v) |
 abbrev pub next : List ℕ → List (ℕ × ℕ) → List ℕ → Option ℕ
 next nodes links placed = find (is_ready links placed) nodes
 
--- the nodes that are placed and behind them one more for each of the list, each the next in its turn
+-- the nodes that are placed and after them one more for each of the list, each the next in its turn
 abbrev pub place : List ℕ → List (ℕ × ℕ) → List ℕ → List ℕ → Option (List ℕ)
 place nodes links placed [] = Some placed
 place nodes links placed (_ ∷ more) = option_and_then (λ v. place nodes links (placed ++ v ∷ []) more) (next nodes links placed)

@@ -17,7 +17,7 @@ nothing x e = cc
 
 -- ---- the second store
 
--- the store that a store pairs with, at a place behind it
+-- the store that a store pairs with, at a place after it
 pub record IsMate (leads : Leads) (a : LedStore) (insts : List Inst) (j : ℕ) : Type 0 where
   pub later : Inst
   pub at : slice_get insts j ≡ Some later

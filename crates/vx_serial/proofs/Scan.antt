@@ -35,7 +35,7 @@ parts : (p0 mid is : List Inst) (i0 i both : Inst) (first second : ℕ) → firs
     with_found (p0 ++ (i0 ∷ (mid ++ (i ∷ is)))) (found_pair first second both) ≡ p0 ++ (mid ++ (both ∷ is))
 parts p0 mid is i0 i both first second ef es =
     ap (λ n. take n whole ++ (take (second - (n + 1)) (drop (n + 1) whole) ++ (both ∷ drop (second + 1) whole))) ef
-    ∙ (λ j. front j ++ (take (second - (length p0 + 1)) (behind j) ++ (both ∷ last j)))
+    ∙ (λ j. front j ++ (take (second - (length p0 + 1)) (past j) ++ (both ∷ last j)))
     ∙ ap (λ n. p0 ++ (take n (mid ++ (i ∷ is)) ++ (both ∷ is))) (omega arith)
     ∙ ap (λ xs. p0 ++ (xs ++ (both ∷ is))) (take-append_seam mid (i ∷ is))
   where
@@ -45,8 +45,8 @@ parts p0 mid is i0 i both first second ef es =
     front : take (length p0) (p0 ++ (i0 ∷ (mid ++ (i ∷ is)))) ≡ p0
     front = take-append_seam p0 (i0 ∷ (mid ++ (i ∷ is)))
 
-    behind : drop (length p0 + 1) (p0 ++ (i0 ∷ (mid ++ (i ∷ is)))) ≡ mid ++ (i ∷ is)
-    behind = drop-append-add p0 (i0 ∷ (mid ++ (i ∷ is))) 1
+    past : drop (length p0 + 1) (p0 ++ (i0 ∷ (mid ++ (i ∷ is)))) ≡ mid ++ (i ∷ is)
+    past = drop-append-add p0 (i0 ∷ (mid ++ (i ∷ is))) 1
 
     last : drop (second + 1) (p0 ++ (i0 ∷ (mid ++ (i ∷ is)))) ≡ is
     last =
@@ -60,12 +60,12 @@ map_map : (f g h : List Inst → List Inst) → ((xs : List Inst) → f (g xs) �
 map_map f g h same None = refl
 map_map f g h same (Some xs) = ap Some (same xs)
 
--- with no store waiting, behind the instructions `pre`
+-- with no store waiting, after the instructions `pre`
 abbrev Plainly : Leads → List Inst → List Inst → Type 0
 Plainly leads pre is =
     option_map (λ n. pre ++ n) (paired leads is) ≡ option_map (with_found (pre ++ is)) (scan leads None (length pre) is)
 
--- with a store waiting, which `i0` is, behind `p0` and with `mid` behind it
+-- with a store waiting, which `i0` is, after `p0` and with `mid` after it
 abbrev Waitingly : Leads → LedStore → List Inst → Inst → List Inst → List Inst → Type 0
 Waitingly leads a p0 i0 mid is =
     option_or (option_map (λ n. p0 ++ (mid ++ n)) (paired_with leads a is)) (option_map (λ n. (p0 ++ (i0 ∷ mid)) ++ n) (paired leads is))
@@ -77,7 +77,7 @@ one_more pre i = let l = length-append pre (i ∷ []) in omega arith
 onto : (pre : List Inst) (i : Inst) (xs : List Inst) → pre ++ (i ∷ xs) ≡ (pre ++ i ∷ []) ++ xs
 onto pre i xs = sym (append_assoc pre (i ∷ []) xs)
 
--- what is left to scan behind one instruction more
+-- what is left to scan after one instruction more
 scan_end : (leads : Leads) (w v : Option Waiting) (pre : List Inst) (i : Inst) (is : List Inst) → w ≡ v →
     option_map (with_found ((pre ++ i ∷ []) ++ is)) (scan leads w (length (pre ++ i ∷ [])) is)
     ≡ option_map (with_found (pre ++ (i ∷ is))) (scan leads v (length pre + 1) is)
@@ -98,15 +98,15 @@ plain_step leads pre i is plainly waitingly = by_kind (is_memory i.op) refl
     after : Leads
     after = leads_after leads i
 
-    behind : option_map (λ n. pre ++ n) (option_map (λ rest. i ∷ rest) (paired (leads_after leads i) is))
+    past : option_map (λ n. pre ++ n) (option_map (λ rest. i ∷ rest) (paired (leads_after leads i) is))
         ≡ option_map (λ n. (pre ++ i ∷ []) ++ n) (paired (leads_after leads i) is)
-    behind = map_map (λ n. pre ++ n) (λ rest. i ∷ rest) (λ n. (pre ++ i ∷ []) ++ n) (onto pre i) (paired (leads_after leads i) is)
+    past = map_map (λ n. pre ++ n) (λ rest. i ∷ rest) (λ n. (pre ++ i ∷ []) ++ n) (onto pre i) (paired (leads_after leads i) is)
 
-    -- none waits behind it either
+    -- none waits after it either
     none_waits : (w : Option Waiting) → None ≡ w →
         option_map (λ n. pre ++ n) (option_map (λ rest. i ∷ rest) (paired (leads_after leads i) is))
         ≡ option_map (with_found (pre ++ (i ∷ is))) (scan (leads_after leads i) w (length pre + 1) is)
-    none_waits w e = behind ∙ plainly (leads_after leads i) ∙ scan_end (leads_after leads i) None w pre i is e
+    none_waits w e = past ∙ plainly (leads_after leads i) ∙ scan_end (leads_after leads i) None w pre i is e
 
     -- it waits itself
     it_waits : (a : LedStore) → leads_after leads i ≡ leads →
@@ -114,7 +114,7 @@ plain_step leads pre i is plainly waitingly = by_kind (is_memory i.op) refl
         ≡ option_map (with_found (pre ++ (i ∷ is))) (scan (leads_after leads i) (Some (awaited (length pre) a)) (length pre + 1) is)
     it_waits a same =
         map_or (λ n. pre ++ n) (paired_with leads a is) (option_map (λ rest. i ∷ rest) (paired (leads_after leads i) is))
-        ∙ ap (option_or (option_map (λ n. pre ++ n) (paired_with leads a is))) behind
+        ∙ ap (option_or (option_map (λ n. pre ++ n) (paired_with leads a is))) past
         ∙ ap (λ l. option_or (option_map (λ n. pre ++ n) (paired_with l a is)) (option_map (λ n. (pre ++ i ∷ []) ++ n) (paired (leads_after leads i) is))) (sym same)
         ∙ waitingly (leads_after leads i) a
         ∙ scan_end (leads_after leads i) (Some (awaited (length pre) a)) (Some (awaited (length pre) a)) pre i is refl

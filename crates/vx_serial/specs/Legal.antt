@@ -21,7 +21,7 @@ use Rattle.ir_types.specs.declared.func.Param.{Param}
 use Rattle.ir_types.specs.declared.module.Item.TheVariants.{Func as FuncItem}
 use Rattle.ir_types.specs.declared.module.Module.{Module}
 use Rattle.ir_types.specs.Available.{same_id}
-use Rattle.ir_types.specs.Typed.{is_scalar, lane_width}
+use Rattle.ir_types.specs.Typed.{is_scalar, lane_width, same_ty}
 use Rattle.ir_types.specs.Formed.{is_phi, is_store, given_ty}
 use Rattle.vx_view.specs.Answers.{find, funcs_of, param_of, found, Standing}
 use Rattle.vx_view.specs.Addresses.{form_in, value, number, line}
@@ -114,13 +114,6 @@ abbrev pub ty_of : Module → Opd → Option Ty
 ty_of m (Val v) = value_ty (param_of v (funcs_of m.items)) (found m v)
 ty_of m (Lit l) = Some l.ty
 ty_of m (Sym g) = Some Ptr
-
-abbrev pub same_ty : Ty → Ty → Bool
-same_ty Void Void = true
-same_ty (Int w) (Int v) = nat_eq w v
-same_ty Ptr Ptr = true
-same_ty (Row n w) (Row k v) = nat_eq n k && nat_eq w v
-same_ty _ _ = false
 
 abbrev pub same_tys : List (Option Ty) → List (Option Ty) → Bool
 same_tys [] [] = true

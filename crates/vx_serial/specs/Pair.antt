@@ -137,7 +137,7 @@ is_first_func f = is_empty f.before && is_void f.ret && list_all is_first_param 
 
 -- ---- where pointers lead
 
--- a parameter, and a constant: so many bytes behind where the parameter points
+-- a parameter, and a constant: so many bytes after where the parameter points
 abbrev pub Lead : Type 0
 Lead = Option (Id × ℤ)
 
@@ -196,7 +196,7 @@ both_stored j low high = record {
   opds = Lit (record { ty = Row 2 32; lanes = low.lane ∷ high.lane ∷ [] }) ∷ Val low.pointer ∷ [];
 }
 
--- by which of two stores at one parameter is 4 bytes behind the other
+-- by which of two stores at one parameter is 4 bytes after the other
 abbrev pub joined_by_distance : Inst → LedStore → LedStore → Option Inst
 joined_by_distance j a b =
     cond (int_eq b.constant (a.constant +ℤ pos 4)) (Some (both_stored j a b))
@@ -213,7 +213,7 @@ joined leads j a b = cond (is_lead (leads a.pointer) a.base a.constant && same_i
 abbrev pub joined_to : Leads → LedStore → Inst → Option Inst
 joined_to leads a j = option_and_then (joined leads j a) (led_store_of leads j)
 
--- the instructions behind a store, where it pairs with the next of them that touches memory
+-- the instructions after a store, where it pairs with the next of them that touches memory
 abbrev pub paired_with : Leads → LedStore → List Inst → Option (List Inst)
 paired_with leads a [] = None
 paired_with leads a (j ∷ js) =

@@ -24,7 +24,7 @@ load_inst k p = inst k (Some (codes "x")) (Int 32) (Load 4) (Val (id p) ∷ [])
 abbrev pub return_inst : ℕ → Inst
 return_inst k = inst k None Void Ret []
 
--- 7 at the parameter and 8 four bytes behind it
+-- 7 at the parameter and 8 four bytes after it
 pub pair_of_two_stores : pair_of (module_b two_stores) ≡ module_b (step_inst 1 4 ∷ both_inst 3 7 8 0 4 ∷ return_inst 4 ∷ [])
 unfolding int_wrap
 pair_of_two_stores = refl

@@ -25,7 +25,7 @@ pair_at leads (Some waiting) at i = cond (is_memory i.op) (option_map (found_pai
 abbrev pub awaited : ℕ → LedStore → Waiting
 awaited place store = record { place = place; store = store }
 
--- the waiting store behind an instruction
+-- the waiting store after an instruction
 abbrev pub waiting_after : Leads → Option Waiting → ℕ → Inst → Option Waiting
 waiting_after leads waiting at i = cond (is_memory i.op) (option_map (awaited at) (led_store_of leads i)) waiting
 

@@ -55,7 +55,7 @@ groups_in bundles insts = map (map (place_of insts)) bundles ++ singles bundles 
 
 -- ---- edges
 
--- from one place to those behind it that depend on it
+-- from one place to those after it that depend on it
 abbrev pub edges_from : Module → List Inst → ℕ → Inst → ℕ → List Inst → List (ℕ × ℕ)
 edges_from m block from i at [] = []
 edges_from m block from i at (j ∷ js) =

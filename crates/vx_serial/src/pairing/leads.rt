@@ -1,4 +1,4 @@
-//! Where pointers lead: which parameter an id's pointer is of, and how many bytes behind it.
+//! Where pointers lead: which parameter an id's pointer is of, and how many bytes after it.
 //!
 //! The state is a table of what is known of each id that an instruction or a parameter defines; of others nothing is. `learn` fails
 //! for want of memory alone, and then the table is no longer of use.

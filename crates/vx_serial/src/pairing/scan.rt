@@ -23,7 +23,7 @@ pub struct LedStore {
     pub align: u64,
     /// The parameter.
     pub base: Id,
-    /// How many bytes behind the parameter's pointer.
+    /// How many bytes after the parameter's pointer.
     pub constant: i64,
 }
 
@@ -102,7 +102,7 @@ fn pair_at(
     }
 }
 
-/// The waiting store behind an instruction.
+/// The waiting store after an instruction.
 fn waiting_after(known: &Known, waiting: Option<Waiting>, at: usize, inst: &Inst) -> Option<Waiting>
     ensures { result ≡ waiting_after (leads_in known.now.table) waiting at inst.now }
 {

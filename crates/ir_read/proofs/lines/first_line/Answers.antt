@@ -1,4 +1,4 @@
--- The line stands before the feed, and what follows behind it.
+-- The line stands before the feed, and what follows after it.
 use Rattle.std.proofs.Common.{◌≤◌, length, take, arith, rules}
 use Rattle.ir_read.proofs.Splitting.{cut_at, last_line, shorter}
 use Rattle.ir_read.proofs.lines.first_line.Goals as goal

@@ -1,4 +1,4 @@
--- The cases that are left, behind those seen, are typed as all are.
+-- The cases that are left, after those seen, are typed as all are.
 use Rattle.std.proofs.Common.{◌≡◌, [], length}
 use Rattle.ir_types_check.specs.Links.{choices}
 use Rattle.ir_types_check.specs.Typed.{choices_typed}

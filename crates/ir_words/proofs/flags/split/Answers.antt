@@ -3,4 +3,4 @@ use Rattle.ir_words.proofs.Lists.{split_words}
 use Rattle.ir_words.proofs.flags.split.Goals as goal
 
 pub returns : goal.returns
-returns c = rw (c.split_at.ensures.front, c.split_at.ensures.back) (split_words _ _ _)
+returns c = rw (c.front.ensures.line, c.front.ensures.tokens, c.skip.ensures.line, c.skip.ensures.tokens) (split_words _ _ _)

@@ -1,4 +1,4 @@
--- Behind the last block all are counted.
+-- After the last block all are counted.
 use Rattle.std.proofs.Common.{rules}
 use Rattle.vec_top.proofs.Counting.{counted_whole}
 use Rattle.vec_top.proofs.counts.with_blocks.Goals as goal

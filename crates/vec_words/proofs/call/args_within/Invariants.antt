@@ -1,4 +1,4 @@
--- The arguments of the rest behind those found are those of all.
+-- The arguments of the rest after those found are those of all.
 use Rattle.std.proofs.Common.{◌≡◌, [], length}
 use Rattle.vec_words.specs.Calls.{args_within}
 use Rattle.vec_words.proofs.call.args_within.Given as goal

@@ -1,4 +1,4 @@
--- The literals of the rest behind those found are those of all.
+-- The literals of the rest after those found are those of all.
 use Rattle.std.proofs.Common.{◌≡◌, [], length}
 use Rattle.vec_words.specs.Calls.{lits_within}
 use Rattle.vec_words.proofs.call.lits.Given as goal

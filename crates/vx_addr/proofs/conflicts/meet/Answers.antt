@@ -16,7 +16,7 @@ returns-in_err-apart-in-Some-Some-clause-asks g c =
     let b : Access = as_access c.in-Some-Some.b in
     let walks : Module → Id → Bool = λ m x. on_walks (block_at m c.args.place) a.pointer x || on_walks (block_at m c.args.place) b.pointer x in
     let touched : Module → Id → Bool = λ m x. on_access (block_at m c.args.place) (access_of c.args.first.now) x || on_access (block_at m c.args.place) (access_of c.args.second.now) x in
-    asks_more (λ m. Names (walks m)) (λ m. Names (touched m)) (g.V.View.seen c.args.view.now) (g.V.View.seen c.pointers_apart.new.view) c.in_err-apart-in-Some-Some.ensures.asks
+    asks_more (λ m. Names (walks m)) (λ m. Names (touched m)) (g.V.View.seen c.args.view.now) (g.V.View.seen c.accesses_apart.new.view) c.in_err-apart-in-Some-Some.ensures.asks
     (λ m t f.
     names_more (walks m) (touched m)
     (accesses_on (block_at m c.args.place) (access_of c.args.first.now) (access_of c.args.second.now) a b
@@ -28,7 +28,7 @@ returns-in_ok-apart-in-Some-Some-clause-asks g c =
     let b : Access = as_access c.in-Some-Some.b in
     let walks : Module → Id → Bool = λ m x. on_walks (block_at m c.args.place) a.pointer x || on_walks (block_at m c.args.place) b.pointer x in
     let touched : Module → Id → Bool = λ m x. on_access (block_at m c.args.place) (access_of c.args.first.now) x || on_access (block_at m c.args.place) (access_of c.args.second.now) x in
-    asks_more (λ m. Names (walks m)) (λ m. Names (touched m)) (g.V.View.seen c.args.view.now) (g.V.View.seen c.pointers_apart.new.view) c.in_ok-apart-in-Some-Some.ensures.asks
+    asks_more (λ m. Names (walks m)) (λ m. Names (touched m)) (g.V.View.seen c.args.view.now) (g.V.View.seen c.accesses_apart.new.view) c.in_ok-apart-in-Some-Some.ensures.asks
     (λ m t f.
     names_more (walks m) (touched m)
     (accesses_on (block_at m c.args.place) (access_of c.args.first.now) (access_of c.args.second.now) a b

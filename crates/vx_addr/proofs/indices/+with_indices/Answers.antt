@@ -2,7 +2,7 @@ use Rattle.std.proofs.Common.{rules, ◌≡◌, ◌≤◌, length, subst, sym, a
 use Rattle.vx_view.specs.Addresses.{with_index}
 use Rattle.ir_types.specs.Formed.{IsOpd}
 use Rattle.vx_addr.specs.Parts.{as_offset}
-use Rattle.vx_addr.proofs.Behind.{no_scales, opd_first, opds_behind, one_more}
+use Rattle.vx_addr.proofs.After.{no_scales, opd_first, opds_after, one_more}
 use Rattle.vx_addr.proofs.indices.+with_indices.Goals as goal
 
 pub returns-in-len1-up-empty : goal.returns-in-len1-up-empty
@@ -18,4 +18,4 @@ returns-in-Some t c h =
     let few : 1 ≤ length c.args.scales.now = search rules in
     one_more c.args.scales.now c.args.indices.now (as_offset c.args.offset) (as_offset c.in-Some.offset) 0 c.index-item.result (option_map as_offset c.with_indices.result) few some
     (ap (λ x. with_index x (get_or c.args.scales.now 0 0) (as_offset c.args.offset)) (sym c.index-item.is) ∙ sym (c.with_index.ensures opd) ∙ ap (option_map as_offset) c.in-Some.is)
-    (c.with_indices.ensures (opds_behind c.args.indices.now h some))
+    (c.with_indices.ensures (opds_after c.args.indices.now h some))

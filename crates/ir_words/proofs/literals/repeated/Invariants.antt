@@ -1,6 +1,0 @@
--- So many lanes as were counted.
-use Rattle.std.proofs.Common.{◌≡◌, replicate}
-use Rattle.ir_words.proofs.literals.repeated.Given as goal
-
-abbrev pub invariant-each : goal.invariant-each
-invariant-each l = l.lanes ≡ replicate l.counter l.lane
