@@ -1,0 +1,29 @@
+-- Parameters, by the functions of which they are.
+use Rattle.std.specs.Prelude.{◌≡◌, refl, ℕ, suc, false, Option, None, Some, List, [], ◌∷◌, option_map}
+use Rattle.ir_types.specs.declared.id.Id.{Id}
+use Rattle.ir_types.specs.declared.ty.Ty.{Ty}
+use Rattle.ir_types.specs.declared.ty.Ty.TheVariants.{Int}
+use Rattle.ir_types.specs.declared.func.Param.{Param}
+use Rattle.ir_types.specs.declared.func.Func.{Func}
+use Rattle.vx_view.specs.Answers.{funcs_of, param_in, either, value, doubles}
+use Rattle.sb_lines.specs.declared.params.ParamSpot.{ParamSpot}
+
+abbrev pub spot_of : ℕ → Param → ParamSpot
+spot_of func p = record { func = func; noalias = p.noalias; ty = p.ty }
+
+-- the parameter of an id, in the first function that has it
+abbrev pub spot_from : Id → ℕ → List Func → Option ParamSpot
+spot_from id func [] = None
+spot_from id func (f ∷ fs) = either (option_map (spot_of func) (param_in id f.params)) (spot_from id (suc func) fs)
+
+-- what a question for a parameter tells of it
+abbrev pub told : ParamSpot → Option Ty
+told s = Some s.ty
+
+-- ---- a worked example
+
+the_parameter : spot_from (value 0) 0 (funcs_of doubles.items) ≡ Some (record { func = 0; noalias = false; ty = Int 8 })
+the_parameter = refl
+
+the_sum_is_none : spot_from (value 1) 0 (funcs_of doubles.items) ≡ None
+the_sum_is_none = refl
