@@ -5,7 +5,7 @@ use Rattle.ir_types.specs.declared.id.Id.{Id}
 use Rattle.ir_types.specs.declared.id.Place.{Place}
 use Rattle.ir_types.specs.declared.inst.Inst.{Inst}
 use Rattle.ir_types.specs.declared.module.Module.{Module}
-use Rattle.ir_types.specs.IdTable.{found as item_of}
+use Rattle.ir_types.specs.Available.{same_id}
 use Rattle.vx_view.specs.Answers.{Standing}
 use Rattle.sb_lines.specs.declared.nodes.Held.{Held}
 use Rattle.sb_lines.specs.declared.nodes.Held.TheVariants.{Block, Line as LineHeld, Gone}
@@ -44,7 +44,7 @@ seen a = filled (λ place insts. contents a place) a.frame
 -- ---- ids and room
 
 abbrev pub node : Arena → Id → Option ℕ
-node a id = item_of a.table id
+node a id = get same_id a.table id
 
 -- an id has a node, though perhaps no instruction stands there now
 abbrev pub knows : Arena → Id → Bool
@@ -56,7 +56,7 @@ Keeps old new = (id : Id) → knows old id ≡ true → knows new id ≡ true
 
 -- how many ids can come without more memory
 abbrev pub room : Arena → ℕ
-room a = min (vec_capacity a.nodes - length a.nodes.items) (min (vec_capacity a.table.row - length a.table.row.items) (spare a.table.others))
+room a = min (vec_capacity a.nodes - length a.nodes.items) (spare a.table)
 
 -- ---- where an instruction stands
 

@@ -2,8 +2,7 @@
 --
 -- What is no node holds nothing. The instructions of a block are walked from its mark, from node to next node, as long as each holds one;
 -- there are no more steps than nodes.
-use Rattle.std.specs.Prelude.{◌≡◌, refl, ℕ, zero, suc, ◌==◌, cond, Option, None, Some, List, [], ◌∷◌, length, slice_get, vec_capacity}
-use Rattle.std.specs.Vec.{Vec}
+use Rattle.std.specs.Prelude.{◌≡◌, refl, ℕ, zero, suc, ◌==◌, cond, Option, None, Some, List, [], ◌∷◌, length, slice_get}
 use Rattle.ir_types.specs.declared.id.Id.{Id}
 use Rattle.ir_types.specs.declared.id.Place.{Place}
 use Rattle.ir_types.specs.declared.inst.Inst.{Inst}
@@ -47,10 +46,6 @@ lines h n zero at = []
 lines h n (suc k) at = line_then (h (n at)) (lines h n k (n at))
 
 -- ---- what writes leave
-
-pub record SameSize (old new : Vec Node) : Type 0 where
-  pub length_is : length new.items ≡ length old.items
-  pub capacity_is : vec_capacity new ≡ vec_capacity old
 
 -- a node stands just before another, after what stood there
 pub record IsLinked (s t : List Node) (before at : ℕ) : Type 0 where

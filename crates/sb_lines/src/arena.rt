@@ -33,7 +33,7 @@ pub(crate) struct Arena {
     /// The mark of each block.
     pub(crate) marks: HashMap<BlockKey, usize>,
     /// The node of each id, also of one whose instruction was taken out.
-    pub(crate) table: IdTable<usize>,
+    pub(crate) table: HashMap<Id, usize>,
 }
 
 impl Arena {
@@ -41,7 +41,7 @@ impl Arena {
     pub(crate) fn node(&self, id: Id) -> Option<usize>
         ensures { result ≡ node self.now id }
     {
-        self.table.get(id).copied()
+        self.table.get(&id).copied()
     }
 
     /// The mark of a block.

@@ -3,9 +3,9 @@
 //! A block is a ring: its mark, and a node for each of its instructions in order. The node before the mark is the last, the one after it the
 //! first, so no node lacks a neighbour. What is taken out of a ring keeps its node, which holds nothing then. Nothing here fails.
 
-ghost use Rattle.std.specs.Prelude.{◌≡◌, ℕ, ◌+◌, ◌<◌, cond, ◌==◌, length, vec_capacity};
+ghost use Rattle.std.specs.Prelude.{◌≡◌, ℕ, ◌+◌, ◌<◌, ◌≤◌, cond, ◌==◌, length, vec_capacity};
 ghost use Rattle.sb_lines.specs.declared.nodes.Held.TheVariants.{Gone};
-ghost use Rattle.sb_lines.specs.Nodes.{held, next, prev, SameSize, IsLinked, IsUnlinked};
+ghost use Rattle.sb_lines.specs.Nodes.{held, next, prev, IsLinked, IsUnlinked};
 
 use ir_types::{Inst, Place};
 
@@ -34,7 +34,8 @@ fn set_next(nodes: &mut Vec<Node>, at: usize, to: usize)
     ensures next { (x : ℕ) → next nodes.new.items x ≡ cond (at == x) to (next nodes.old.items x) }
     ensures prev { (x : ℕ) → prev nodes.new.items x ≡ prev nodes.old.items x }
     ensures held { (x : ℕ) → held nodes.new.items x ≡ held nodes.old.items x }
-    ensures size { SameSize nodes.old nodes.new }
+    ensures length { length nodes.new.items ≡ length nodes.old.items }
+    ensures capacity { vec_capacity nodes.new ≡ vec_capacity nodes.old }
 {
     nodes[at].next = to;
 }
@@ -45,7 +46,8 @@ fn set_prev(nodes: &mut Vec<Node>, at: usize, to: usize)
     ensures next { (x : ℕ) → next nodes.new.items x ≡ next nodes.old.items x }
     ensures prev { (x : ℕ) → prev nodes.new.items x ≡ cond (at == x) to (prev nodes.old.items x) }
     ensures held { (x : ℕ) → held nodes.new.items x ≡ held nodes.old.items x }
-    ensures size { SameSize nodes.old nodes.new }
+    ensures length { length nodes.new.items ≡ length nodes.old.items }
+    ensures capacity { vec_capacity nodes.new ≡ vec_capacity nodes.old }
 {
     nodes[at].prev = to;
 }
@@ -57,7 +59,8 @@ pub(crate) fn hold(nodes: &mut Vec<Node>, at: usize, what: Held) -> Held
     ensures next { (x : ℕ) → next nodes.new.items x ≡ next nodes.old.items x }
     ensures prev { (x : ℕ) → prev nodes.new.items x ≡ prev nodes.old.items x }
     ensures held { (x : ℕ) → held nodes.new.items x ≡ cond (at == x) what (held nodes.old.items x) }
-    ensures size { SameSize nodes.old nodes.new }
+    ensures length { length nodes.new.items ≡ length nodes.old.items }
+    ensures capacity { vec_capacity nodes.new ≡ vec_capacity nodes.old }
 {
     std::mem::replace(&mut nodes[at].held, what)
 }
@@ -69,7 +72,7 @@ pub(crate) fn push_gone(nodes: &mut Vec<Node>)
     ensures prev { (x : ℕ) → prev nodes.new.items x ≡ prev nodes.old.items x }
     ensures held { (x : ℕ) → held nodes.new.items x ≡ held nodes.old.items x }
     ensures length { length nodes.new.items ≡ length nodes.old.items + 1 }
-    ensures capacity { vec_capacity nodes.new ≡ vec_capacity nodes.old }
+    ensures capacity { vec_capacity nodes.old ≤ vec_capacity nodes.new }
 {
     let node = Node {
         held: Held::Gone,
@@ -87,7 +90,8 @@ pub(crate) fn link(nodes: &mut Vec<Node>, at: usize, before: usize)
     requires before { before < length nodes.old.items }
     requires prev { prev nodes.old.items before < length nodes.old.items }
     ensures linked { IsLinked nodes.old.items nodes.new.items before at }
-    ensures size { SameSize nodes.old nodes.new }
+    ensures length { length nodes.new.items ≡ length nodes.old.items }
+    ensures capacity { vec_capacity nodes.new ≡ vec_capacity nodes.old }
 {
     let prev = nodes[before].prev;
     set_next(nodes, at, before);
@@ -102,7 +106,8 @@ pub(crate) fn unlink(nodes: &mut Vec<Node>, at: usize)
     requires next { next nodes.old.items at < length nodes.old.items }
     requires prev { prev nodes.old.items at < length nodes.old.items }
     ensures unlinked { IsUnlinked nodes.old.items nodes.new.items at }
-    ensures size { SameSize nodes.old nodes.new }
+    ensures length { length nodes.new.items ≡ length nodes.old.items }
+    ensures capacity { vec_capacity nodes.new ≡ vec_capacity nodes.old }
 {
     let next = nodes[at].next;
     let prev = nodes[at].prev;
