@@ -1,2 +1,4 @@
 pub mod Rings
 pub mod Walks
+pub mod Standing
+pub mod Linked

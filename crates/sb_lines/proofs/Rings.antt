@@ -14,7 +14,7 @@ eq-is a b h = grind (arith, nat_tests)
 pub eq-itself : (a : ℕ) → (a == a) ≡ true
 eq-itself a = grind (arith, nat_tests)
 
-to-false : (b : Bool) → (b ≡ true → ⊥) → b ≡ false
+pub to-false : (b : Bool) → (b ≡ true → ⊥) → b ≡ false
 to-false true n = absurd (n refl)
 to-false false n = refl
 

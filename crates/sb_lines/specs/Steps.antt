@@ -1,5 +1,5 @@
 -- What the steps of a change leave as it was.
-use Rattle.std.specs.Prelude.{◌≡◌, ℕ, ◌≤◌, Option, None, Some, IsSome, List, [], ◌∷◌, ◌++◌, length}
+use Rattle.std.specs.Prelude.{◌≡◌, ℕ, ◌≤◌, Option, None, Some, IsSome, List, [], ◌∷◌, ◌++◌, length, option_and_then}
 use Rattle.ir_types.specs.declared.id.Id.{Id}
 use Rattle.ir_types.specs.declared.id.Place.{Place}
 use Rattle.ir_types.specs.declared.inst.Inst.{Inst}
@@ -9,7 +9,7 @@ use Rattle.sb_lines.specs.declared.spot.Before.TheVariants.{Line, End}
 use Rattle.sb_lines.specs.declared.arena.Arena.{Arena}
 use Rattle.sb_lines.specs.Filling.{Filling, at_end}
 use Rattle.sb_lines.specs.Nodes.{held, next, prev}
-use Rattle.sb_lines.specs.Arena.{mark, node, standing}
+use Rattle.sb_lines.specs.Arena.{mark, node, standing, before_held, Told}
 
 -- module, parameters and marks
 pub record SameFrame (s t : Arena) : Type 0 where
@@ -18,19 +18,13 @@ pub record SameFrame (s t : Arena) : Type 0 where
   pub params : t.params ≡ s.params
   pub marks : t.marks ≡ s.marks
 
--- all nodes hold and name what they did; an id may have got a node, which holds nothing
-pub record IsEntered (s t : Arena) : Type 0 where
+-- all nodes hold and name what they did
+pub record IsKept (s t : Arena) : Type 0 where
   pub same : SameFrame s t
   pub held_is : (y : ℕ) → held t.nodes.items y ≡ held s.nodes.items y
   pub next_is : (y : ℕ) → next t.nodes.items y ≡ next s.nodes.items y
   pub prev_is : (y : ℕ) → prev t.nodes.items y ≡ prev s.nodes.items y
   pub length_is : length s.nodes.items ≤ length t.nodes.items
-
--- the same nodes
-pub record IsSame (s t : Arena) : Type 0 where
-  pub same : SameFrame s t
-  pub nodes_is : t.nodes.items ≡ s.nodes.items
-  pub node_is : (id : Id) → node t id ≡ node s id
 
 -- ---- where an instruction comes
 
@@ -43,3 +37,10 @@ coming (End place) new q insts = at_end place new q insts
 abbrev pub HasPlace : Arena → Before → Type 0
 HasPlace a (Line x) = IsSome (standing a x)
 HasPlace a (End place) = IsSome (mark a place)
+
+-- before what an instruction stands, by its node
+abbrev pub stood_before : Arena → Id → Option Before
+stood_before a id = option_and_then (λ y. before_held a (next a.nodes.items y)) (node a id)
+
+abbrev pub told_inst : Told → Inst
+told_inst s = s.inst

@@ -57,6 +57,8 @@ pub record IsRings (a : Arena) : Type 0 where
   pub rings : (place : Place) (m : ℕ) → mark a place ≡ Some m → IsRing a place m (ring place)
   pub lines : (y : ℕ) (place : Place) (inst : Inst) → held a.nodes.items y ≡ Line place inst → IsStanding a y place inst (ring place)
   pub nodes : (id : Id) (y : ℕ) → node a id ≡ Some y → (y < length a.nodes.items) × IsOf id (held a.nodes.items y)
+  pub marks : (y : ℕ) (place : Place) → held a.nodes.items y ≡ Block place → mark a place ≡ Some y
+  pub single : (x z : Id) (y : ℕ) → node a x ≡ Some y → node a z ≡ Some y → x ≡ z
   pub blocks : (place : Place) → IsSome (mark a place) → has_block a.frame place ≡ true
 
 -- ---- the whole

@@ -4,9 +4,10 @@
 //! is the only failure, of `reserve`.
 
 ghost use Rattle.std.specs.Prelude.{◌≡◌, ◌≤◌, ◌<◌, ℕ, IsOk, OnOk, length, option_map};
+ghost use Rattle.ir_types.specs.declared.id.Id.{Id};
 ghost use Rattle.sb_lines.specs.Nodes.{next, prev};
 ghost use Rattle.sb_lines.specs.Arena.{mark, spot, standing, as_told, next_of, prev_of, first_of, id_held, place_held, before_held, line_of, key_of, node, room};
-ghost use Rattle.sb_lines.specs.Steps.{IsSame};
+ghost use Rattle.sb_lines.specs.Steps.{IsKept};
 
 use crate::nodes::{Held, Node};
 use crate::params::ParamSpot;
@@ -180,7 +181,8 @@ impl Arena {
 
     /// Makes room for so many more ids.
     pub(crate) fn reserve(&mut self, more: usize) -> Result<(), OutOfMemory>
-        ensures same { IsSame self.old self.new }
+        ensures kept { IsKept self.old self.new }
+        ensures node { (id : Id) → node self.new id ≡ node self.old id }
         ensures ok { OnOk result (more ≤ room self.new) }
         ensures had_room { more ≤ room self.old → IsOk result }
         ensures room { room self.old ≤ room self.new }
