@@ -2,3 +2,5 @@ pub mod Rings
 pub mod Walks
 pub mod Standing
 pub mod Linked
+pub mod Unlinked
+pub mod Exchanged

@@ -124,6 +124,18 @@ module _ (n p : ℕ → ℕ) where
       go true e rest = subst (λ x. has x (v ∷ vs) ≡ true) (sym (eq-is (p t) v e)) (has-head v vs)
       go false e rest = has-more v (p t) vs (rest (eq-not (p t) v e))
 
+  -- no node is after itself
+  pub loops : (a : ℕ) (us : List ℕ) (t u : ℕ) → Seg n p a us t → Apart us → has t us ≡ false → has u us ≡ true → n u ≡ u → ⊥
+  loops a [] t u seg apart lt got e = false-true got
+  loops a (v ∷ vs) t u seg apart lt got e =
+      has-split v u vs got
+      (λ is. first vs seg.1 apart.0 is)
+      (λ _ h. loops v vs t u seg.1 apart.1 (lacks-more v t vs lt) h e)
+    where
+      first : (ws : List ℕ) → Seg n p v ws t → has v ws ≡ false → v ≡ u → ⊥
+      first [] s l is = lacks-head v t vs lt (is ∙ sym e ∙ ap n (sym is) ∙ s.0)
+      first (w ∷ ws) s l is = lacks-head w v ws l (sym s.0.0 ∙ ap n is ∙ e ∙ sym is)
+
 -- nodes that keep their neighbours
 pub seg-same : (n m p q : ℕ → ℕ) (a : ℕ) (us : List ℕ) (t : ℕ) → Seg n p a us t → m a ≡ n a → ((w : ℕ) → has w us ≡ true → m w ≡ n w) → ((w : ℕ) → has w us ≡ true → q w ≡ p w) → q t ≡ p t → Seg m q a us t
 seg-same n m p q a [] t seg e nexts prevs f = (e ∙ seg.0, f ∙ seg.1)
