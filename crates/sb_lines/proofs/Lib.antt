@@ -4,3 +4,5 @@ pub mod Standing
 pub mod Linked
 pub mod Unlinked
 pub mod Exchanged
+pub mod Stood
+pub mod Writes

@@ -17,7 +17,7 @@ use Rattle.sb_lines.specs.Nodes.{held, next, prev}
 use Rattle.sb_lines.specs.Arena.{mark, node, contents, place_in, before_in}
 use Rattle.sb_lines.specs.Whole.{has, Apart, Seg, IsRing, IsStanding, IsOf, IsRings}
 use Rattle.sb_lines.specs.Steps.{SameFrame, coming}
-use Rattle.sb_lines.proofs.Rings.{false-true, eq-is, eq-itself, eq-not, eq-other, to-false, hit, miss, seg-same, put_before, PutIn, put-in, put-apart, has-put, prev-in, last-in}
+use Rattle.sb_lines.proofs.Rings.{false-true, eq-is, eq-itself, eq-not, eq-other, to-false, hit, miss, seg-same, put_before, PutIn, put-in, put-apart, has-put, prev-in, last-in, prev-next, last-back}
 use Rattle.sb_lines.proofs.Walks.{insts, IsKept, AllKept, OthersKept, insts-same, insts-in, insts-kept, insts-end}
 use Rattle.sb_lines.proofs.Standing.{place-is, place-itself, place-not, none-some, some-is, line-place, line-inst, gone-line, gone-block, block-line, mark-lacks, gone-lacks, contents-is, contents-none, home, only-at, mark-same, some-there, there-some}
 
@@ -50,6 +50,40 @@ spot-in s R spot place is = by (held s.nodes.items spot) refl is
         record { m = m.0; marked = m.1; either = λ lacks. absurd (false-true (sym lacks ∙ st.there)) }
     by Gone e f = absurd (none-some f)
 
+-- the node before it is of the same block
+pub spot-prev : (s : Arena) (R : IsRings s) (spot : ℕ) (place : Place) → place_in (held s.nodes.items spot) ≡ Some place → place_in (held s.nodes.items (prev s.nodes.items spot)) ≡ Some place
+spot-prev s R spot place is = go (spot-in s R spot place is)
+  where
+    go : SpotIn s R spot place → place_in (held s.nodes.items (prev s.nodes.items spot)) ≡ Some place
+    go here = home s R place here.m here.marked (prev s.nodes.items spot) (λ lacks. at-mark lacks (prev s.nodes.items spot == here.m) refl)
+      where
+        r : IsRing s place here.m (R.ring place)
+        r = R.rings place here.m here.marked
+
+        at-mark : has (prev s.nodes.items spot) (R.ring place) ≡ false → (b : Bool) → (prev s.nodes.items spot == here.m) ≡ b → prev s.nodes.items spot ≡ here.m
+        at-mark lacks true e = eq-is (prev s.nodes.items spot) here.m e
+        at-mark lacks false e = by (has spot (R.ring place)) refl
+          where
+            by : (c : Bool) → has spot (R.ring place) ≡ c → prev s.nodes.items spot ≡ here.m
+            by true got = absurd (false-true (sym lacks ∙ prev-in (next s.nodes.items) (prev s.nodes.items) here.m (R.ring place) here.m spot r.seg got (eq-not (prev s.nodes.items spot) here.m e)))
+            by false lost =
+                let is = here.either lost in
+                absurd (false-true (sym lacks ∙ subst (λ x. has (prev s.nodes.items x) (R.ring place) ≡ true) (sym is) (last-in (next s.nodes.items) (prev s.nodes.items) here.m (R.ring place) here.m r.seg (λ f. eq-not (prev s.nodes.items spot) here.m e (ap (prev s.nodes.items) is ∙ f)))))
+
+-- and names it
+pub spot-named : (s : Arena) (R : IsRings s) (spot : ℕ) (place : Place) → place_in (held s.nodes.items spot) ≡ Some place → next s.nodes.items (prev s.nodes.items spot) ≡ spot
+spot-named s R spot place is = go (spot-in s R spot place is)
+  where
+    go : SpotIn s R spot place → next s.nodes.items (prev s.nodes.items spot) ≡ spot
+    go here = by (has spot (R.ring place)) refl
+      where
+        r : IsRing s place here.m (R.ring place)
+        r = R.rings place here.m here.marked
+
+        by : (c : Bool) → has spot (R.ring place) ≡ c → next s.nodes.items (prev s.nodes.items spot) ≡ spot
+        by true got = prev-next (next s.nodes.items) (prev s.nodes.items) here.m (R.ring place) here.m spot r.seg got
+        by false lost = subst (λ x. next s.nodes.items (prev s.nodes.items x) ≡ x) (sym (here.either lost)) (last-back (next s.nodes.items) (prev s.nodes.items) here.m (R.ring place) here.m r.seg)
+
 module _ (s t : Arena) (at spot : ℕ) (place : Place) (inst : Inst) (R : IsRings s) (L : LinkedIn s t at spot place inst) where
   abbrev h : ℕ → Held
   h = held s.nodes.items
@@ -79,17 +113,7 @@ module _ (s t : Arena) (at spot : ℕ) (place : Place) (inst : Inst) (R : IsRing
   lacks-at = gone-lacks s R place here.m here.marked at L.gone
 
   before-spot : place_in (h (p spot)) ≡ Some place
-  before-spot = home s R place here.m here.marked (p spot) (λ lacks. at-mark lacks (p spot == here.m) refl)
-    where
-      at-mark : has (p spot) ring ≡ false → (b : Bool) → (p spot == here.m) ≡ b → p spot ≡ here.m
-      at-mark lacks true e = eq-is (p spot) here.m e
-      at-mark lacks false e = by (has spot ring) refl
-        where
-          by : (c : Bool) → has spot ring ≡ c → p spot ≡ here.m
-          by true got = absurd (false-true (sym lacks ∙ prev-in (next s.nodes.items) p here.m ring here.m spot r.seg got (eq-not (p spot) here.m e)))
-          by false lost =
-              let is = here.either lost in
-              absurd (false-true (sym lacks ∙ subst (λ x. has (p x) ring ≡ true) (sym is) (last-in (next s.nodes.items) p here.m ring here.m r.seg (λ f. eq-not (p spot) here.m e (ap p is ∙ f)))))
+  before-spot = spot-prev s R spot place L.place_is
 
   -- ---- the rings
 

@@ -200,7 +200,7 @@ module _ (s t : Arena) (at : ℕ) (place : Place) (inst : Inst) (R : IsRings s) 
 
   -- ---- and back
 
-  no-loop : at ≡ next s.nodes.items at → ⊥
+  pub no-loop : at ≡ next s.nodes.items at → ⊥
   no-loop e = by (some-there (mark s place) stood.marked)
     where
       by : (k : ℕ) × (mark s place ≡ Some k) → ⊥

@@ -1,7 +1,8 @@
 -- What the steps of a change leave as it was.
-use Rattle.std.specs.Prelude.{◌≡◌, ℕ, ◌≤◌, Option, None, Some, IsSome, List, [], ◌∷◌, ◌++◌, length, option_and_then}
+use Rattle.std.specs.Prelude.{◌≡◌, ℕ, ◌≤◌, Option, None, Some, IsSome, List, [], ◌∷◌, ◌++◌, length, slice_get, option_and_then}
 use Rattle.ir_types.specs.declared.id.Id.{Id}
 use Rattle.ir_types.specs.declared.id.Place.{Place}
+use Rattle.ir_types.specs.declared.opd.Opd.{Opd}
 use Rattle.ir_types.specs.declared.inst.Inst.{Inst}
 use Rattle.vx_view.specs.Changes.{each, inserting}
 use Rattle.sb_lines.specs.declared.spot.Before.{Before}
@@ -44,3 +45,6 @@ stood_before a id = option_and_then (λ y. before_held a (next a.nodes.items y))
 
 abbrev pub told_inst : Told → Inst
 told_inst s = s.inst
+
+abbrev pub told_operand : ℕ → Option Told → Option Opd
+told_operand slot s = option_and_then (λ (t : Told). slice_get t.inst.opds slot) s

@@ -2,6 +2,7 @@
 #![tactic(auto)]
 
 mod arena;
+mod changing;
 mod nodes;
 mod params;
 mod spot;
