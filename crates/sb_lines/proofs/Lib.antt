@@ -6,3 +6,5 @@ pub mod Unlinked
 pub mod Exchanged
 pub mod Stood
 pub mod Writes
+pub mod Filled
+pub mod Standings

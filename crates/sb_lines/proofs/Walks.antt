@@ -142,7 +142,7 @@ abbrev pub OnlyAt : (ℕ → Held) → Id → ℕ → List ℕ → Type 0
 OnlyAt h id b ys = (y : ℕ) → has y ys ≡ true → (place : Place) (i : Inst) → h y ≡ Line place i → same_id i.id id ≡ (b == y)
 
 module _ (h : ℕ → Held) (place : Place) (id : Id) (b : ℕ) where
-  only-more : (y : ℕ) (ys : List ℕ) → OnlyAt h id b (y ∷ ys) → OnlyAt h id b ys
+  pub only-more : (y : ℕ) (ys : List ℕ) → OnlyAt h id b (y ∷ ys) → OnlyAt h id b ys
   only-more y ys only w got = only w (has-more y w ys got)
 
   -- it is found where the node is
