@@ -8,3 +8,5 @@ pub mod Stood
 pub mod Writes
 pub mod Filled
 pub mod Standings
+pub mod Wholes
+pub mod Said

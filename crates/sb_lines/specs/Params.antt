@@ -1,5 +1,5 @@
 -- Parameters, by the functions of which they are.
-use Rattle.std.specs.Prelude.{◌≡◌, refl, ℕ, suc, false, Option, None, Some, List, [], ◌∷◌, option_map}
+use Rattle.std.specs.Prelude.{◌≡◌, refl, ℕ, suc, Bool, false, Option, None, Some, List, [], ◌∷◌, option_map}
 use Rattle.ir_types.specs.declared.id.Id.{Id}
 use Rattle.ir_types.specs.declared.ty.Ty.{Ty}
 use Rattle.ir_types.specs.declared.ty.Ty.TheVariants.{Int}
@@ -17,8 +17,15 @@ spot_from id func [] = None
 spot_from id func (f ∷ fs) = either (option_map (spot_of func) (param_in id f.params)) (spot_from id (suc func) fs)
 
 -- what a question for a parameter tells of it
-abbrev pub told : ParamSpot → Option Ty
-told s = Some s.ty
+pub record Told : Type 0 where
+  pub noalias : Bool
+  pub ty : Ty
+
+abbrev pub spot_told : ParamSpot → Told
+spot_told s = record { noalias = s.noalias; ty = s.ty }
+
+abbrev pub param_told : Param → Told
+param_told p = record { noalias = p.noalias; ty = p.ty }
 
 -- ---- a worked example
 

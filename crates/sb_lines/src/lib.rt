@@ -3,9 +3,13 @@
 
 mod arena;
 mod changing;
+mod laws;
+mod lines;
 mod nodes;
 mod params;
 mod spot;
 
+pub use laws::moves_before_another;
+pub use lines::Lines;
 pub use params::ParamSpot;
 pub use spot::{Before, Found, Spot};
