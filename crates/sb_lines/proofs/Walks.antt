@@ -1,5 +1,5 @@
 -- The instructions along a ring, and what they become where one comes, goes or is put in the place of another.
-use Rattle.std.proofs.Common.{◌≡◌, refl, sym, ap, ◌∙◌, subst, ℕ, zero, suc, ◌≤◌, ◌==◌, Bool, true, false, Option, None, Some, List, [], ◌∷◌, ◌++◌, length, cond, arith}
+use Rattle.std.proofs.Common.{◌≡◌, refl, sym, ap, ◌∙◌, subst, ℕ, zero, suc, ◌-◌, ◌<◌, ◌≤◌, ◌==◌, Bool, true, false, Option, None, Some, List, [], ◌∷◌, ◌++◌, length, cond, arith}
 use Rattle.ir_types.specs.declared.id.Id.{Id}
 use Rattle.ir_types.specs.declared.id.Place.{Place}
 use Rattle.ir_types.specs.declared.inst.Inst.{Inst}
@@ -9,7 +9,7 @@ use Rattle.vx_view.specs.Changes.{Edit, each}
 use Rattle.sb_lines.specs.declared.nodes.Held.{Held}
 use Rattle.sb_lines.specs.declared.nodes.Held.TheVariants.{Block, Line, Gone}
 use Rattle.sb_lines.specs.Nodes.{lines, line_then}
-use Rattle.sb_lines.specs.Arena.{id_in}
+use Rattle.sb_lines.specs.Arena.{id_in, inst_in}
 use Rattle.sb_lines.specs.Whole.{has, Apart, Seg}
 use Rattle.sb_lines.proofs.Rings.{false-true, eq-is, eq-itself, eq-not, eq-other, eq-true, hit, miss, has-head, has-more, has-split, lacks-head, lacks-more, differ, without, put_before}
 
@@ -172,3 +172,19 @@ module _ (h : ℕ → Held) (place : Place) (id : Id) (b : ℕ) where
       ap (λ x. find id (line_then x (insts h ys))) at.1
       ∙ ap (λ t. cond t (Some at.0) (find id (insts h ys))) (only y (has-head y ys) place at.0 at.1 ∙ eq-other b y (λ f. lacks-head y b ys lacks (sym f)))
       ∙ find-none ys (more-lines h place y ys are) (only-more y ys only) (lacks-more y b ys lacks)
+
+-- ---- a step of the walk
+
+pub step-some : (h : ℕ → Held) (n : ℕ → ℕ) (left at : ℕ) (i : Inst) → 0 < left → inst_in (h (n at)) ≡ Some i → lines h n left at ≡ i ∷ lines h n (left - 1) (n at)
+step-some h n zero at i pos e = absurd (omega (arith, pos))
+step-some h n (suc k) at i pos e =
+    let one : k ≡ suc k - 1 = omega (arith) in
+    by (h (n at)) e ∙ ap (λ j. i ∷ lines h n j (n at)) one
+  where
+    by : (x : Held) → inst_in x ≡ Some i → line_then x (lines h n k (n at)) ≡ i ∷ lines h n k (n at)
+    by (Line p j) f = ap (λ v. v ∷ lines h n k (n at)) (same f)
+      where
+        same : Some j ≡ Some i → j ≡ i
+        same g = cc
+    by (Block p) f = absurd cc
+    by Gone f = absurd cc

@@ -92,6 +92,13 @@ id_in _ = None
 abbrev pub id_held : Arena → ℕ → Option Id
 id_held a y = id_in (held a.nodes.items y)
 
+abbrev pub inst_in : Held → Option Inst
+inst_in (LineHeld place inst) = Some inst
+inst_in _ = None
+
+abbrev pub inst_held : Arena → ℕ → Option Inst
+inst_held a y = inst_in (held a.nodes.items y)
+
 abbrev pub place_in : Held → Option Place
 place_in (LineHeld place inst) = Some place
 place_in (Block place) = Some place

@@ -33,10 +33,18 @@ func_filled c func f = record {
   blocks = blocks_filled c func 0 f.blocks;
 }
 
+abbrev pub item_filled : Filling → ℕ → Item → Item
+item_filled c func (FuncItem f) = FuncItem (func_filled c func f)
+item_filled c func other = other
+
+-- the number of the next function after an item
+abbrev pub func_after : ℕ → Item → ℕ
+func_after func (FuncItem f) = suc func
+func_after func other = func
+
 abbrev pub items_filled : Filling → ℕ → List Item → List Item
 items_filled c func [] = []
-items_filled c func (FuncItem f ∷ items) = FuncItem (func_filled c func f) ∷ items_filled c (suc func) items
-items_filled c func (other ∷ items) = other ∷ items_filled c func items
+items_filled c func (item ∷ items) = item_filled c func item ∷ items_filled c (func_after func item) items
 
 abbrev pub filled : Filling → Module → Module
 filled c m = record { items = items_filled c 0 m.items; globals = m.globals; big_endian_line = m.big_endian_line }

@@ -3,8 +3,10 @@
 
 mod arena;
 mod changing;
+mod copying;
 mod laws;
 mod lines;
+mod lowering;
 mod nodes;
 mod params;
 mod spot;
