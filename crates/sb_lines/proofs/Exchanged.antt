@@ -99,7 +99,6 @@ module _ (s t : Arena) (at : ℕ) (place : Place) (i j : Inst) (R : IsRings s) (
     nodes = nodes_now;
     marks = marks_now;
     single = λ x z y e f. R.single x z y (sym (L.node_is x) ∙ e) (sym (L.node_is z) ∙ f);
-    blocks = λ z e. ap (λ f. has_block f z) L.same.frame ∙ R.blocks z (subst IsSome (mark-same s t L.same z) e);
   }
 
   -- what edits that one instruction alone makes of a block
@@ -153,7 +152,6 @@ module _ (s t : Arena) (R : IsRings s) (K : IsKept s t) (G : NodesGrew s t) wher
     nodes = G.all;
     marks = λ y z e. mark-same s t K.same z ∙ R.marks y z (sym (K.held_is y) ∙ e);
     single = G.single;
-    blocks = λ z e. ap (λ f. has_block f z) K.same.frame ∙ R.blocks z (subst IsSome (mark-same s t K.same z) e);
   }
 
   pub kept-contents : (z : Place) → contents t z ≡ contents s z

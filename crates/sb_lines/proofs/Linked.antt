@@ -218,7 +218,6 @@ module _ (s t : Arena) (at spot : ℕ) (place : Place) (inst : Inst) (R : IsRing
     nodes = nodes_now;
     marks = marks_now;
     single = λ x z y e f. R.single x z y (sym (L.node_is x) ∙ e) (sym (L.node_is z) ∙ f);
-    blocks = λ z e. ap (λ f. has_block f z) L.same.frame ∙ R.blocks z (subst IsSome (mark-same s t L.same z) e);
   }
 
   -- ---- what stands in each block

@@ -51,29 +51,29 @@ before-or-end (LineHeld q i) place before e f = some-is f
 before-or-end (Block q) place before e f = ap End (sym (some-is e)) ∙ some-is f
 before-or-end Gone place before e f = absurd (none-some e)
 
-module _ (a : Arena) (R : IsRings a) (id : Id) (S : StandsAt a id) where
+module _ (a : Arena) (W : IsWhole a) (id : Id) (S : StandsAt a id) where
   pub stood-spot : (before : Before) → stood_before a id ≡ Some before → or_end S.place (after id (contents a S.place)) ≡ before
   stood-spot before e =
-      ap (or_end S.place) (after-there a R id S)
-      ∙ before-or-end (held a.nodes.items (next a.nodes.items S.at)) S.place before (after-at a R S.at S.place S.inst S.held_is)
+      ap (or_end S.place) (after-there a W id S)
+      ∙ before-or-end (held a.nodes.items (next a.nodes.items S.at)) S.place before (after-at a W.rings S.at S.place S.inst S.held_is)
       (sym (ap (option_and_then (λ y. before_held a (next a.nodes.items y))) S.node_is) ∙ e)
 
-pub spot-said : (a : Arena) (R : IsRings a) (id : Id) (spot : Spot) → IsSome (standing a id) → option_map told_inst (standing a id) ≡ Some spot.inst → stood_before a id ≡ Some spot.before → option_map (spot_of id) (found (seen a) id) ≡ Some spot
-spot-said a R id spot there inst before =
-    let S = stands a R id there in
+pub spot-said : (a : Arena) (W : IsWhole a) (id : Id) (spot : Spot) → IsSome (standing a id) → option_map told_inst (standing a id) ≡ Some spot.inst → stood_before a id ≡ Some spot.before → option_map (spot_of id) (found (seen a) id) ≡ Some spot
+spot-said a W id spot there inst before =
+    let S = stands a W.rings id there in
     let first : S.inst ≡ spot.inst = some-is (sym (ap (option_map told_inst) (told-is a id S)) ∙ inst) in
-    let second = stood-spot a R id S spot.before before in
-    ap (option_map (spot_of id)) (found-here a R id S) ∙ ap Some (λ i. record { inst = first i; before = second i })
+    let second = stood-spot a W id S spot.before before in
+    ap (option_map (spot_of id)) (found-here a W id S) ∙ ap Some (λ i. record { inst = first i; before = second i })
 
-pub before-said : (a : Arena) (R : IsRings a) (id : Id) (before : Before) → IsSome (standing a id) → stood_before a id ≡ Some before → option_map (λ s. (spot_of id s).before) (found (seen a) id) ≡ Some before
-before-said a R id before there e =
-    let S = stands a R id there in
-    ap (option_map (λ s. (spot_of id s).before)) (found-here a R id S) ∙ ap Some (stood-spot a R id S before e)
+pub before-said : (a : Arena) (W : IsWhole a) (id : Id) (before : Before) → IsSome (standing a id) → stood_before a id ≡ Some before → option_map (λ s. (spot_of id s).before) (found (seen a) id) ≡ Some before
+before-said a W id before there e =
+    let S = stands a W.rings id there in
+    ap (option_map (λ s. (spot_of id s).before)) (found-here a W id S) ∙ ap Some (stood-spot a W id S before e)
 
 -- ---- a move
 
-pub move-said : (s t : Arena) (R : IsRings s) (id : Id) (before : Before) → SameFrame s t → IsSome (standing s id) → ((inst : Inst) → option_map told_inst (standing s id) ≡ Some inst → (q : Place) → contents t q ≡ coming before inst q (each (removing id) (contents s q))) → seen t ≡ moved_to id before (seen s)
-move-said s t R id before same there is = go (stands s R id there)
+pub move-said : (s t : Arena) (W : IsWhole s) (id : Id) (before : Before) → SameFrame s t → IsSome (standing s id) → ((inst : Inst) → option_map told_inst (standing s id) ≡ Some inst → (q : Place) → contents t q ≡ coming before inst q (each (removing id) (contents s q))) → seen t ≡ moved_to id before (seen s)
+move-said s t W id before same there is = go (stands s W.rings id there)
   where
     go : StandsAt s id → seen t ≡ moved_to id before (seen s)
     go S =
@@ -82,7 +82,7 @@ move-said s t R id before same there is = go (stands s R id there)
         ∙ sym (put-filled before S.inst (filled (λ q insts. each (removing id) insts) (seen s)))
         ∙ ap (put_in before S.inst) (sym (edited-filled (removing id) (seen s)))
         ∙ ap (λ x. put_in before S.inst (edited (removing x) (seen s))) (sym S.id_is)
-        ∙ sym (ap (moved_in before (seen s)) (found-here s R id S))
+        ∙ sym (ap (moved_in before (seen s)) (found-here s W id S))
 
 -- what stood stands
 pub moved-there : (x y : Option Told) → option_map told_inst x ≡ option_map told_inst y → IsSome y → IsSome x

@@ -17,7 +17,7 @@ use Rattle.sb_lines.specs.declared.arena.Arena.{Arena}
 use Rattle.sb_lines.specs.Filling.{Filling, place_of, blocks_filled, func_filled, filled, block_in, has_block}
 use Rattle.sb_lines.specs.Nodes.{held, next, prev, line_then}
 use Rattle.sb_lines.specs.Arena.{mark, node, contents, seen, standing, Told, told_of, id_in, id_held, line_of, next_of, prev_of, first_of}
-use Rattle.sb_lines.specs.Whole.{has, Apart, Seg, IsRings}
+use Rattle.sb_lines.specs.Whole.{has, Apart, Seg, IsRings, IsWhole}
 use Rattle.sb_lines.proofs.Rings.{false-true, eq-is, eq-itself, eq-not, eq-other, to-false, hit, miss, has-head, has-more, lacks-more}
 use Rattle.sb_lines.proofs.Walks.{insts, AreLines, more-lines, OnlyAt, find-there, only-more}
 use Rattle.sb_lines.proofs.Standing.{place-is, place-itself, place-not, none-some, some-is, line-place, id-other, contents-is, contents-none, only-at, some-there}
@@ -33,7 +33,7 @@ module _ (c : Place → List Inst) (id : Id) where
   abbrev told : Filling
   told q insts = c q
 
-  none-blocks : (func n : ℕ) (bs : List Block) → ((k : ℕ) → find id (c (place_of func k)) ≡ None) → standing_in id func n (blocks_filled told func n bs) ≡ None
+  pub none-blocks : (func n : ℕ) (bs : List Block) → ((k : ℕ) → find id (c (place_of func k)) ≡ None) → standing_in id func n (blocks_filled told func n bs) ≡ None
   none-blocks func n [] none = refl
   none-blocks func n (b ∷ bs) none =
       ap (λ o. either (of_module.standing func n (c (place_of func n)) o) (standing_in id func (suc n) (blocks_filled told func (suc n) bs))) (none n)
@@ -52,7 +52,7 @@ module _ (c : Place → List Inst) (id : Id) where
     other-place : (q : Place) → (place ≡ q → ⊥) → find id (c q) ≡ None
     other-place q ne = nowhere q (to-false (same_place place q) (λ h. ne (place-is place q h)))
 
-    in-blocks : (func n j : ℕ) (bs : List Block) → place ≡ place_of func (n + j) → nat_lt j (length bs) ≡ true → standing_in id func n (blocks_filled told func n bs) ≡ Some (stands_as place (c place) inst)
+    pub in-blocks : (func n j : ℕ) (bs : List Block) → place ≡ place_of func (n + j) → nat_lt j (length bs) ≡ true → standing_in id func n (blocks_filled told func n bs) ≡ Some (stands_as place (c place) inst)
     in-blocks func n j [] is less = absurd (never j less)
       where
         never : (k : ℕ) → nat_lt k 0 ≡ true → ⊥
@@ -117,16 +117,19 @@ find-absent h place id (y ∷ ys) are other =
 
 -- ---- the answer of the module
 
-module _ (a : Arena) (R : IsRings a) where
+module _ (a : Arena) (W : IsWhole a) where
   abbrev h : ℕ → Held
   h = held a.nodes.items
 
-  by-mark : (q : Place) (P : List Inst → Type 0) → P [] → ((m : ℕ) → mark a q ≡ Some m → P (insts h (R.ring q))) → P (contents a q)
+  has-marked : (q : Place) → IsSome (mark a q) → has_block a.frame q ≡ true
+  has-marked q e = sym (W.marked q) ∙ e
+
+  by-mark : (q : Place) (P : List Inst → Type 0) → P [] → ((m : ℕ) → mark a q ≡ Some m → P (insts h (W.rings.ring q))) → P (contents a q)
   by-mark q P none some = by (mark a q) refl
     where
       by : (o : Option ℕ) → mark a q ≡ o → P (contents a q)
-      by None e = subst P (sym (contents-none a R q e)) none
-      by (Some m) e = subst P (sym (contents-is a R q m e)) (some m e)
+      by None e = subst P (sym (contents-none a W.rings q e)) none
+      by (Some m) e = subst P (sym (contents-is a W.rings q m e)) (some m e)
 
   abbrev pub standing_told : Told → Standing
   standing_told t = record { place = t.place; block = contents a t.place; inst = t.inst }
@@ -134,27 +137,27 @@ module _ (a : Arena) (R : IsRings a) where
   -- one that stands
   module _ (id : Id) (S : StandsAt a id) where
     only : (y : ℕ) (q : Place) (i : Inst) → h y ≡ Line q i → same_id i.id id ≡ (S.at == y)
-    only y q i e = ap (same_id i.id) (sym S.id_is) ∙ only-at a R S.at S.place S.inst S.held_is y q i e
+    only y q i e = ap (same_id i.id) (sym S.id_is) ∙ only-at a W.rings S.at S.place S.inst S.held_is y q i e
 
     pub find-here : find id (contents a S.place) ≡ Some S.inst
-    find-here = by (some-there (mark a S.place) (R.lines S.at S.place S.inst S.held_is).marked)
+    find-here = by (some-there (mark a S.place) (W.rings.lines S.at S.place S.inst S.held_is).marked)
       where
         by : (m : ℕ) × (mark a S.place ≡ Some m) → find id (contents a S.place) ≡ Some S.inst
         by m =
-            ap (find id) (contents-is a R S.place m.0 m.1)
-            ∙ find-there h S.place id S.at S.inst S.held_is (R.ring S.place) (R.rings S.place m.0 m.1).each (λ y got. only y) (R.lines S.at S.place S.inst S.held_is).there
+            ap (find id) (contents-is a W.rings S.place m.0 m.1)
+            ∙ find-there h S.place id S.at S.inst S.held_is (W.rings.ring S.place) (W.rings.rings S.place m.0 m.1).each (λ y got. only y) (W.rings.lines S.at S.place S.inst S.held_is).there
 
     pub find-elsewhere : (q : Place) → same_place S.place q ≡ false → find id (contents a q) ≡ None
-    find-elsewhere q w = by-mark q (λ l. find id l ≡ None) refl (λ m e. find-absent h q id (R.ring q) (R.rings q m e).each (λ y got i f. only y q i f ∙ eq-other S.at y (λ g. place-not S.place q w (line-place (sym S.held_is ∙ ap h g ∙ f)))))
+    find-elsewhere q w = by-mark q (λ l. find id l ≡ None) refl (λ m e. find-absent h q id (W.rings.ring q) (W.rings.rings q m e).each (λ y got i f. only y q i f ∙ eq-other S.at y (λ g. place-not S.place q w (line-place (sym S.held_is ∙ ap h g ∙ f)))))
 
     pub found-here : found (seen a) id ≡ Some (record { place = S.place; block = contents a S.place; inst = S.inst })
-    found-here = found-some (contents a) id S.place S.inst find-here find-elsewhere a.frame (R.blocks S.place (R.lines S.at S.place S.inst S.held_is).marked)
+    found-here = found-some (contents a) id S.place S.inst find-here find-elsewhere a.frame (has-marked S.place (W.rings.lines S.at S.place S.inst S.held_is).marked)
 
   pub found-nowhere : (id : Id) → standing a id ≡ None → found (seen a) id ≡ None
-  found-nowhere id none = found-none (contents a) id a.frame (λ q. by-mark q (λ l. find id l ≡ None) refl (λ m e. find-absent h q id (R.ring q) (R.rings q m e).each (λ y got i f. other y q i f)))
+  found-nowhere id none = found-none (contents a) id a.frame (λ q. by-mark q (λ l. find id l ≡ None) refl (λ m e. find-absent h q id (W.rings.ring q) (W.rings.rings q m e).each (λ y got i f. other y q i f)))
     where
       other : (y : ℕ) (q : Place) (i : Inst) → h y ≡ Line q i → same_id i.id id ≡ false
-      other y q i f = id-other i.id id (λ e. none-some (sym none ∙ ap (standing a) (sym e) ∙ told-is a i.id (record { at = y; place = q; inst = i; node_is = (R.lines y q i f).known; held_is = f; id_is = refl })))
+      other y q i f = id-other i.id id (λ e. none-some (sym none ∙ ap (standing a) (sym e) ∙ told-is a i.id (record { at = y; place = q; inst = i; node_is = (W.rings.lines y q i f).known; held_is = f; id_is = refl })))
 
   -- all in one
   pub found-is : (id : Id) → found (seen a) id ≡ option_map standing_told (standing a id)
@@ -163,7 +166,7 @@ module _ (a : Arena) (R : IsRings a) where
       by : (o : Option Told) → standing a id ≡ o → found (seen a) id ≡ option_map standing_told (standing a id)
       by None e = found-nowhere id e ∙ sym (ap (option_map standing_told) e)
       by (Some t) e =
-          let S = stands a R id (ap Rattle.std.specs.Prelude.is_some e) in
+          let S = stands a W.rings id (ap Rattle.std.specs.Prelude.is_some e) in
           found-here id S ∙ sym (ap (option_map standing_told) (told-is a id S))
 
   pub told-found : (id : Id) → standing a id ≡ option_map told_of (found (seen a) id)
@@ -221,9 +224,9 @@ module _ (h : ℕ → Held) (n p : ℕ → ℕ) (place : Place) (t : ℕ) (stops
         (λ e i f. is ∙ ap (λ x. id_in (h x)) (sym seg.0.1 ∙ ap p (sym e)))
         (λ ne i f. before-is y ys (Some i.id) seg.1 (more-lines h place y ys are) (only-more h place id b y ys only) (further y ys got ne) (ap id_in (sym f)))
 
-module _ (a : Arena) (R : IsRings a) where
+module _ (a : Arena) (W : IsWhole a) where
   stop : (m : ℕ) (q : Place) → mark a q ≡ Some m → id_in (held a.nodes.items m) ≡ None
-  stop m q e = ap id_in (R.rings q m e).at_mark
+  stop m q e = ap id_in (W.rings.rings q m e).at_mark
 
   abbrev standing_as : Told → Standing
   standing_as t = record { place = t.place; block = contents a t.place; inst = t.inst }
@@ -237,36 +240,36 @@ module _ (a : Arena) (R : IsRings a) where
     where
       by : (o : Option ℕ) → node a id ≡ o → option_and_then (λ y. option_map (λ (x : Id). y) (id_held a y)) o ≡ None
       by None e = refl
-      by (Some y) e = ap (λ x. option_map (λ (z : Id). y) (id_in x)) (gone-at a R id y none e)
+      by (Some y) e = ap (λ x. option_map (λ (z : Id). y) (id_in x)) (gone-at a W.rings id y none e)
 
   module _ (id : Id) (F : Standing → Option Id) (n : ℕ → ℕ) (is : (S : StandsAt a id) → F (standing_as (record { place = S.place; inst = S.inst })) ≡ id_held a (n S.at)) where
     pub beside-is : option_and_then (λ y. id_held a (n y)) (line_of a id) ≡ option_and_then F (found (seen a) id)
     beside-is = by (standing a id) refl
       where
         by : (o : Option Told) → standing a id ≡ o → option_and_then (λ y. id_held a (n y)) (line_of a id) ≡ option_and_then F (found (seen a) id)
-        by None e = ap (option_and_then (λ y. id_held a (n y))) (line-gone id e) ∙ sym (ap (option_and_then F) (found-nowhere a R id e))
+        by None e = ap (option_and_then (λ y. id_held a (n y))) (line-gone id e) ∙ sym (ap (option_and_then F) (found-nowhere a W id e))
         by (Some t) e =
-            let S = stands a R id (ap Rattle.std.specs.Prelude.is_some e) in
-            ap (option_and_then (λ y. id_held a (n y))) (line-there id S) ∙ sym (is S) ∙ sym (ap (option_and_then F) (found-here a R id S))
+            let S = stands a W.rings id (ap Rattle.std.specs.Prelude.is_some e) in
+            ap (option_and_then (λ y. id_held a (n y))) (line-there id S) ∙ sym (is S) ∙ sym (ap (option_and_then F) (found-here a W id S))
 
   module _ (id : Id) (S : StandsAt a id) where
     only-one : (y : ℕ) (q : Place) (i : Inst) → held a.nodes.items y ≡ Line q i → same_id i.id id ≡ (S.at == y)
-    only-one y q i e = ap (same_id i.id) (sym S.id_is) ∙ only-at a R S.at S.place S.inst S.held_is y q i e
+    only-one y q i e = ap (same_id i.id) (sym S.id_is) ∙ only-at a W.rings S.at S.place S.inst S.held_is y q i e
 
     marked : (m : ℕ) × (mark a S.place ≡ Some m)
-    marked = some-there (mark a S.place) (R.lines S.at S.place S.inst S.held_is).marked
+    marked = some-there (mark a S.place) (W.rings.lines S.at S.place S.inst S.held_is).marked
 
     pub after-there : after id (contents a S.place) ≡ id_held a (next a.nodes.items S.at)
     after-there =
-        let r = R.rings S.place marked.0 marked.1 in
-        ap (after id) (contents-is a R S.place marked.0 marked.1)
-        ∙ after-is (held a.nodes.items) (next a.nodes.items) (prev a.nodes.items) S.place marked.0 (stop marked.0 S.place marked.1) id S.at marked.0 (R.ring S.place) r.seg r.each (λ y got. only-one y) (R.lines S.at S.place S.inst S.held_is).there
+        let r = W.rings.rings S.place marked.0 marked.1 in
+        ap (after id) (contents-is a W.rings S.place marked.0 marked.1)
+        ∙ after-is (held a.nodes.items) (next a.nodes.items) (prev a.nodes.items) S.place marked.0 (stop marked.0 S.place marked.1) id S.at marked.0 (W.rings.ring S.place) r.seg r.each (λ y got. only-one y) (W.rings.lines S.at S.place S.inst S.held_is).there
 
     pub before-there : before id None (contents a S.place) ≡ id_held a (prev a.nodes.items S.at)
     before-there =
-        let r = R.rings S.place marked.0 marked.1 in
-        ap (before id None) (contents-is a R S.place marked.0 marked.1)
-        ∙ before-is (held a.nodes.items) (next a.nodes.items) (prev a.nodes.items) S.place marked.0 (stop marked.0 S.place marked.1) id S.at marked.0 (R.ring S.place) None r.seg r.each (λ y got. only-one y) (R.lines S.at S.place S.inst S.held_is).there (sym (stop marked.0 S.place marked.1))
+        let r = W.rings.rings S.place marked.0 marked.1 in
+        ap (before id None) (contents-is a W.rings S.place marked.0 marked.1)
+        ∙ before-is (held a.nodes.items) (next a.nodes.items) (prev a.nodes.items) S.place marked.0 (stop marked.0 S.place marked.1) id S.at marked.0 (W.rings.ring S.place) None r.seg r.each (λ y got. only-one y) (W.rings.lines S.at S.place S.inst S.held_is).there (sym (stop marked.0 S.place marked.1))
 
   pub next-is : (id : Id) → next_of a id ≡ option_and_then (λ s. after id s.block) (found (seen a) id)
   next-is id = beside-is id (λ s. after id s.block) (next a.nodes.items) (after-there id)
@@ -278,14 +281,14 @@ module _ (a : Arena) (R : IsRings a) where
   first-there q = by (mark a q) refl ∙ sym (first-filled (contents a) a.frame q)
     where
       no-block : mark a q ≡ None → (b : Bool) → cond b (id_of (contents a q)) None ≡ None
-      no-block e true = ap id_of (contents-none a R q e)
+      no-block e true = ap id_of (contents-none a W.rings q e)
       no-block e false = refl
 
       by : (o : Option ℕ) → mark a q ≡ o → option_and_then (λ y. id_held a (next a.nodes.items y)) (mark a q) ≡ cond (has_block a.frame q) (id_of (contents a q)) None
       by None e = ap (option_and_then (λ y. id_held a (next a.nodes.items y))) e ∙ sym (no-block e (has_block a.frame q))
       by (Some m) e =
-          let r = R.rings q m e in
+          let r = W.rings.rings q m e in
           ap (option_and_then (λ y. id_held a (next a.nodes.items y))) e
-          ∙ sym (first-is (held a.nodes.items) (next a.nodes.items) (prev a.nodes.items) q m (stop m q e) m (R.ring q) r.seg r.each)
-          ∙ sym (ap id_of (contents-is a R q m e))
-          ∙ sym (hit None (R.blocks q (ap Rattle.std.specs.Prelude.is_some e)))
+          ∙ sym (first-is (held a.nodes.items) (next a.nodes.items) (prev a.nodes.items) q m (stop m q e) m (W.rings.ring q) r.seg r.each)
+          ∙ sym (ap id_of (contents-is a W.rings q m e))
+          ∙ sym (hit None (sym (W.marked q) ∙ (ap Rattle.std.specs.Prelude.is_some e)))

@@ -174,7 +174,6 @@ module _ (s t : Arena) (at : ℕ) (place : Place) (inst : Inst) (R : IsRings s) 
     nodes = nodes_now;
     marks = marks_now;
     single = λ x z y e f. R.single x z y (sym (L.node_is x) ∙ e) (sym (L.node_is z) ∙ f);
-    blocks = λ z e. ap (λ f. has_block f z) L.same.frame ∙ R.blocks z (subst IsSome (mark-same s t L.same z) e);
   }
 
   pub unlinked-contents : (z : Place) → contents t z ≡ each (removing inst.id) (contents s z)

@@ -24,7 +24,7 @@ use Rattle.sb_lines.proofs.Standings.{told-found, found-is}
 pub whole-kept : (s t : Arena) → IsWhole s → SameFrame s t → IsRings t → IsWhole t
 whole-kept s t W same R = record {
   rings = R;
-  marked = λ q has. subst IsSome (sym (mark-same s t same q)) (W.marked q (ap (λ f. has_block f q) (sym same.frame) ∙ has));
+  marked = λ q. ap is_some (mark-same s t same q) ∙ W.marked q ∙ ap (λ f. has_block f q) (sym same.frame);
   params = λ id func. ap (λ p. of_func func (item_of p id)) same.params ∙ W.params id func ∙ ap (λ f. param_there id func (slice_get (funcs_of f.items) func)) (sym same.frame);
   funcs = same.funcs ∙ W.funcs ∙ ap (λ f. length (funcs_of f.items)) (sym same.frame);
 }
@@ -45,34 +45,34 @@ map-none f (Some x) n = absurd (none-some (sym n))
 
 module _ (a : Arena) (W : IsWhole a) where
   pub stands-there : (id : Id) → IsSome (found (seen a) id) → IsSome (standing a id)
-  stands-there id n = subst IsSome (sym (told-found a W.rings id)) (some-map told_of (found (seen a) id) n)
+  stands-there id n = subst IsSome (sym (told-found a W id)) (some-map told_of (found (seen a) id) n)
 
   pub there-stands : (id : Id) → IsSome (standing a id) → IsSome (found (seen a) id)
-  there-stands id n = map-some told_of (found (seen a) id) (subst IsSome (told-found a W.rings id) n)
+  there-stands id n = map-some told_of (found (seen a) id) (subst IsSome (told-found a W id) n)
 
   pub stands-not : (id : Id) → found (seen a) id ≡ None → standing a id ≡ None
-  stands-not id e = told-found a W.rings id ∙ ap (option_map told_of) e
+  stands-not id e = told-found a W id ∙ ap (option_map told_of) e
 
   pub not-stands : (id : Id) → standing a id ≡ None → found (seen a) id ≡ None
-  not-stands id e = map-none told_of (found (seen a) id) (sym (told-found a W.rings id) ∙ e)
+  not-stands id e = map-none told_of (found (seen a) id) (sym (told-found a W id) ∙ e)
 
   pub has-place : (before : Before) → HasSpot (seen a) before → HasPlace a before
   has-place (Line x) has = stands-there x has
-  has-place (End place) has = W.marked place (sym (has-filled (λ q insts. contents a q) a.frame place) ∙ has)
+  has-place (End place) has = W.marked place ∙ sym (has-filled (λ q insts. contents a q) a.frame place) ∙ has
 
   pub place-has : (before : Before) → HasPlace a before → HasSpot (seen a) before
   place-has (Line x) has = there-stands x has
-  place-has (End place) has = has-filled (λ q insts. contents a q) a.frame place ∙ W.rings.blocks place has
+  place-has (End place) has = has-filled (λ q insts. contents a q) a.frame place ∙ sym (W.marked place) ∙ has
 
   pub inst-told : (id : Id) → option_map inst_of (found (seen a) id) ≡ option_map told_inst (standing a id)
-  inst-told id = by (found (seen a) id) ∙ ap (option_map told_inst) (sym (told-found a W.rings id))
+  inst-told id = by (found (seen a) id) ∙ ap (option_map told_inst) (sym (told-found a W id))
     where
       by : (o : Option Standing) → option_map inst_of o ≡ option_map told_inst (option_map told_of o)
       by None = refl
       by (Some s) = refl
 
   pub operand-told : (id : Id) (slot : ℕ) → operand (seen a) id slot ≡ told_operand slot (standing a id)
-  operand-told id slot = by (found (seen a) id) ∙ ap (told_operand slot) (sym (told-found a W.rings id))
+  operand-told id slot = by (found (seen a) id) ∙ ap (told_operand slot) (sym (told-found a W id))
     where
       by : (o : Option Standing) → option_and_then (operand_at slot) o ≡ told_operand slot (option_map told_of o)
       by None = refl

@@ -2,7 +2,7 @@
 --
 -- Each block has its mark and a ring of nodes, each of which names its neighbours and stands once in it. A node holds an instruction exactly
 -- where it is in the ring of that instruction's block; the node of each id holds its instruction, or nothing.
-use Rattle.std.specs.Prelude.{◌≡◌, refl, ℕ, suc, ◌==◌, ◌<◌, Bool, true, false, cond, Option, None, Some, IsSome, List, [], ◌∷◌, length, slice_get, option_map, option_and_then, ⊤}
+use Rattle.std.specs.Prelude.{◌≡◌, refl, ℕ, suc, ◌==◌, ◌<◌, Bool, true, false, cond, Option, None, Some, IsSome, is_some, List, [], ◌∷◌, length, slice_get, option_map, option_and_then, ⊤}
 use Rattle.ir_types.specs.declared.id.Id.{Id}
 use Rattle.ir_types.specs.declared.id.Place.{Place}
 use Rattle.ir_types.specs.declared.inst.Inst.{Inst}
@@ -59,7 +59,6 @@ pub record IsRings (a : Arena) : Type 0 where
   pub nodes : (id : Id) (y : ℕ) → node a id ≡ Some y → (y < length a.nodes.items) × IsOf id (held a.nodes.items y)
   pub marks : (y : ℕ) (place : Place) → held a.nodes.items y ≡ Block place → mark a place ≡ Some y
   pub single : (x z : Id) (y : ℕ) → node a x ≡ Some y → node a z ≡ Some y → x ≡ z
-  pub blocks : (place : Place) → IsSome (mark a place) → has_block a.frame place ≡ true
 
 -- ---- the whole
 
@@ -73,8 +72,8 @@ param_there id func (Some f) = option_map (spot_of func) (param_in id f.params)
 
 pub record IsWhole (a : Arena) : Type 0 where
   pub rings : IsRings a
-  -- each block has a mark
-  pub marked : (place : Place) → has_block a.frame place ≡ true → IsSome (mark a place)
+  -- the blocks have marks, and nothing else has
+  pub marked : (place : Place) → is_some (mark a place) ≡ has_block a.frame place
   -- parameters are those of the functions
   pub params : (id : Id) (func : ℕ) → of_func func (item_of a.params id) ≡ param_there id func (slice_get (funcs_of a.frame.items) func)
   pub funcs : a.funcs ≡ length (funcs_of a.frame.items)

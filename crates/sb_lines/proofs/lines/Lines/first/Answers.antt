@@ -15,4 +15,4 @@ use Rattle.sb_lines.proofs.lines.Lines.first.Goals as goal
 
 pub returns : goal.returns
 returns c =
-    c.first.ensures ∙ first-there c.self.inside.arena c.self.invariant.rings c.args.place ∙ ap (λ (s : Arena). first_in c.args.place.block (slice_get (funcs_of (seen s).items) c.args.place.func)) c.self.view_is
+    c.first.ensures ∙ first-there c.self.inside.arena c.self.invariant c.args.place ∙ ap (λ (s : Arena). first_in c.args.place.block (slice_get (funcs_of (seen s).items) c.args.place.func)) c.self.view_is

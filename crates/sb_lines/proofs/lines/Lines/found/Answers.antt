@@ -15,4 +15,4 @@ use Rattle.sb_lines.proofs.lines.Lines.found.Goals as goal
 
 pub returns : goal.returns
 returns c =
-    c.found.ensures ∙ told-found c.self.inside.arena c.self.invariant.rings c.args.id ∙ ap (λ (s : Arena). option_map told_of (found (seen s) c.args.id)) c.self.view_is
+    c.found.ensures ∙ told-found c.self.inside.arena c.self.invariant c.args.id ∙ ap (λ (s : Arena). option_map told_of (found (seen s) c.args.id)) c.self.view_is

@@ -15,4 +15,4 @@ use Rattle.sb_lines.proofs.lines.Lines.next.Goals as goal
 
 pub returns : goal.returns
 returns c =
-    c.next.ensures ∙ next-is c.self.inside.arena c.self.invariant.rings c.args.id ∙ ap (λ (s : Arena). option_and_then (λ t. of_module.after c.args.id t.block) (found (seen s) c.args.id)) c.self.view_is
+    c.next.ensures ∙ next-is c.self.inside.arena c.self.invariant c.args.id ∙ ap (λ (s : Arena). option_and_then (λ t. of_module.after c.args.id t.block) (found (seen s) c.args.id)) c.self.view_is

@@ -15,4 +15,4 @@ use Rattle.sb_lines.proofs.lines.Lines.prev.Goals as goal
 
 pub returns : goal.returns
 returns c =
-    c.prev.ensures ∙ prev-is c.self.inside.arena c.self.invariant.rings c.args.id ∙ ap (λ (s : Arena). option_and_then (λ t. of_module.before c.args.id None t.block) (found (seen s) c.args.id)) c.self.view_is
+    c.prev.ensures ∙ prev-is c.self.inside.arena c.self.invariant c.args.id ∙ ap (λ (s : Arena). option_and_then (λ t. of_module.before c.args.id None t.block) (found (seen s) c.args.id)) c.self.view_is

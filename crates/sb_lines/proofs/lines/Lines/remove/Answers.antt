@@ -23,7 +23,7 @@ returns-clause-now c =
 
 pub returns-clause-spot : goal.returns-clause-spot
 returns-clause-spot c =
-    subst (λ (s : Arena). option_map (spot_of c.args.id) (found (seen s) c.args.id) ≡ Some c.remove.result) c.self.view_is (spot-said c.self.inside.arena c.self.invariant.rings c.args.id c.remove.result (stands-there c.self.inside.arena c.self.invariant c.args.id (subst (λ (s : Arena). IsSome (found (seen s) c.args.id)) (sym c.self.view_is) c.requires.there)) c.remove.ensures.inst c.remove.ensures.before)
+    subst (λ (s : Arena). option_map (spot_of c.args.id) (found (seen s) c.args.id) ≡ Some c.remove.result) c.self.view_is (spot-said c.self.inside.arena c.self.invariant c.args.id c.remove.result (stands-there c.self.inside.arena c.self.invariant c.args.id (subst (λ (s : Arena). IsSome (found (seen s) c.args.id)) (sym c.self.view_is) c.requires.there)) c.remove.ensures.inst c.remove.ensures.before)
 
 pub returns-clause-back : goal.returns-clause-back
 returns-clause-back c =

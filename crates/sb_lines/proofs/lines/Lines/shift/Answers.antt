@@ -23,15 +23,15 @@ shift-requires-clause-place c =
 
 pub returns-clause-now : goal.returns-clause-now
 returns-clause-now c =
-    subst (λ (s : Arena). seen c.shift.new.self ≡ moved_to c.args.id c.args.before (seen s)) c.self.view_is (move-said c.self.inside.arena c.shift.new.self c.self.invariant.rings c.args.id c.args.before c.shift.ensures.same (stands-there c.self.inside.arena c.self.invariant c.args.id (subst (λ (s : Arena). IsSome (found (seen s) c.args.id)) (sym c.self.view_is) c.requires.there)) c.shift.ensures.contents)
+    subst (λ (s : Arena). seen c.shift.new.self ≡ moved_to c.args.id c.args.before (seen s)) c.self.view_is (move-said c.self.inside.arena c.shift.new.self c.self.invariant c.args.id c.args.before c.shift.ensures.same (stands-there c.self.inside.arena c.self.invariant c.args.id (subst (λ (s : Arena). IsSome (found (seen s) c.args.id)) (sym c.self.view_is) c.requires.there)) c.shift.ensures.contents)
 
 pub returns-clause-was : goal.returns-clause-was
 returns-clause-was c =
-    subst (λ (s : Arena). option_map (λ t. (spot_of c.args.id t).before) (found (seen s) c.args.id) ≡ Some c.shift.result) c.self.view_is (before-said c.self.inside.arena c.self.invariant.rings c.args.id c.shift.result (stands-there c.self.inside.arena c.self.invariant c.args.id (subst (λ (s : Arena). IsSome (found (seen s) c.args.id)) (sym c.self.view_is) c.requires.there)) c.shift.ensures.before)
+    subst (λ (s : Arena). option_map (λ t. (spot_of c.args.id t).before) (found (seen s) c.args.id) ≡ Some c.shift.result) c.self.view_is (before-said c.self.inside.arena c.self.invariant c.args.id c.shift.result (stands-there c.self.inside.arena c.self.invariant c.args.id (subst (λ (s : Arena). IsSome (found (seen s) c.args.id)) (sym c.self.view_is) c.requires.there)) c.shift.ensures.before)
 
 pub returns-clause-back : goal.returns-clause-back
 returns-clause-back c =
-    subst (λ (s : Arena). moved_to c.args.id c.shift.result (seen c.shift.new.self) ≡ seen s) c.self.view_is (sym (move-said c.shift.new.self c.self.inside.arena c.shift.ensures.rings c.args.id c.shift.result (frame-back c.self.inside.arena c.shift.new.self c.shift.ensures.same) (moved-there _ _ c.shift.ensures.there (stands-there c.self.inside.arena c.self.invariant c.args.id (subst (λ (s : Arena). IsSome (found (seen s) c.args.id)) (sym c.self.view_is) c.requires.there))) (λ inst e q. sym (c.shift.ensures.back inst (sym c.shift.ensures.there ∙ e) q))))
+    subst (λ (s : Arena). moved_to c.args.id c.shift.result (seen c.shift.new.self) ≡ seen s) c.self.view_is (sym (move-said c.shift.new.self c.self.inside.arena (whole-kept c.self.inside.arena c.shift.new.self c.self.invariant c.shift.ensures.same c.shift.ensures.rings) c.args.id c.shift.result (frame-back c.self.inside.arena c.shift.new.self c.shift.ensures.same) (moved-there _ _ c.shift.ensures.there (stands-there c.self.inside.arena c.self.invariant c.args.id (subst (λ (s : Arena). IsSome (found (seen s) c.args.id)) (sym c.self.view_is) c.requires.there))) (λ inst e q. sym (c.shift.ensures.back inst (sym c.shift.ensures.there ∙ e) q))))
 
 pub returns-clause-there : goal.returns-clause-there
 returns-clause-there c =
