@@ -10,3 +10,4 @@ pub mod Filled
 pub mod Standings
 pub mod Wholes
 pub mod Said
+pub mod Kept

@@ -14,7 +14,8 @@ use Rattle.sb_lines.specs.declared.arena.Arena.{Arena}
 use Rattle.sb_lines.specs.Filling.{has_block}
 use Rattle.sb_lines.specs.Spots.{put_in, moved_in, moved_to, HasSpot, CanPut, inst_of, operand, operand_at, or_end}
 use Rattle.sb_lines.specs.Arena.{mark, contents, seen, standing, Told, told_of}
-use Rattle.sb_lines.specs.Whole.{IsRings, IsWhole, of_func, param_there}
+use Rattle.sb_lines.specs.Whole.{IsRings, IsWhole}
+use Rattle.sb_lines.specs.Params.{of_func, param_there}
 use Rattle.sb_lines.specs.Steps.{SameFrame, coming, HasPlace, told_inst, told_operand}
 use Rattle.sb_lines.proofs.Rings.{false-true}
 use Rattle.sb_lines.proofs.Standing.{mark-same, none-some}

@@ -8,15 +8,14 @@ use Rattle.ir_types.specs.declared.id.Place.{Place}
 use Rattle.ir_types.specs.declared.inst.Inst.{Inst}
 use Rattle.ir_types.specs.declared.func.Func.{Func}
 use Rattle.ir_types.specs.IdTable.{found as item_of}
-use Rattle.vx_view.specs.Answers.{funcs_of, param_in}
+use Rattle.vx_view.specs.Answers.{funcs_of}
 use Rattle.sb_lines.specs.declared.nodes.Held.{Held}
 use Rattle.sb_lines.specs.declared.nodes.Held.TheVariants.{Block, Line, Gone}
 use Rattle.sb_lines.specs.declared.arena.Arena.{Arena}
-use Rattle.sb_lines.specs.declared.params.ParamSpot.{ParamSpot}
 use Rattle.sb_lines.specs.Filling.{has_block}
 use Rattle.sb_lines.specs.Nodes.{held, next, prev}
 use Rattle.sb_lines.specs.Arena.{mark, node}
-use Rattle.sb_lines.specs.Params.{spot_of}
+use Rattle.sb_lines.specs.Params.{of_func, param_there}
 
 -- ---- rings
 
@@ -61,14 +60,6 @@ pub record IsRings (a : Arena) : Type 0 where
   pub single : (x z : Id) (y : ℕ) → node a x ≡ Some y → node a z ≡ Some y → x ≡ z
 
 -- ---- the whole
-
-abbrev pub of_func : ℕ → Option ParamSpot → Option ParamSpot
-of_func func None = None
-of_func func (Some s) = cond (s.func == func) (Some s) None
-
-abbrev pub param_there : Id → ℕ → Option Func → Option ParamSpot
-param_there id func None = None
-param_there id func (Some f) = option_map (spot_of func) (param_in id f.params)
 
 pub record IsWhole (a : Arena) : Type 0 where
   pub rings : IsRings a
