@@ -11,3 +11,4 @@ pub mod Standings
 pub mod Wholes
 pub mod Said
 pub mod Kept
+pub mod Typing

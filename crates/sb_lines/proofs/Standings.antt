@@ -153,11 +153,14 @@ module _ (a : Arena) (W : IsWhole a) where
     pub found-here : found (seen a) id ≡ Some (record { place = S.place; block = contents a S.place; inst = S.inst })
     found-here = found-some (contents a) id S.place S.inst find-here find-elsewhere a.frame (has-marked S.place (W.rings.lines S.at S.place S.inst S.held_is).marked)
 
-  pub found-nowhere : (id : Id) → standing a id ≡ None → found (seen a) id ≡ None
-  found-nowhere id none = found-none (contents a) id a.frame (λ q. by-mark q (λ l. find id l ≡ None) refl (λ m e. find-absent h q id (W.rings.ring q) (W.rings.rings q m e).each (λ y got i f. other y q i f)))
+  pub find-nowhere : (id : Id) → standing a id ≡ None → (q : Place) → find id (contents a q) ≡ None
+  find-nowhere id none q = by-mark q (λ l. find id l ≡ None) refl (λ m e. find-absent h q id (W.rings.ring q) (W.rings.rings q m e).each (λ y got i f. other y i f))
     where
-      other : (y : ℕ) (q : Place) (i : Inst) → h y ≡ Line q i → same_id i.id id ≡ false
-      other y q i f = id-other i.id id (λ e. none-some (sym none ∙ ap (standing a) (sym e) ∙ told-is a i.id (record { at = y; place = q; inst = i; node_is = (W.rings.lines y q i f).known; held_is = f; id_is = refl })))
+      other : (y : ℕ) (i : Inst) → h y ≡ Line q i → same_id i.id id ≡ false
+      other y i f = id-other i.id id (λ e. none-some (sym none ∙ ap (standing a) (sym e) ∙ told-is a i.id (record { at = y; place = q; inst = i; node_is = (W.rings.lines y q i f).known; held_is = f; id_is = refl })))
+
+  pub found-nowhere : (id : Id) → standing a id ≡ None → found (seen a) id ≡ None
+  found-nowhere id none = found-none (contents a) id a.frame (find-nowhere id none)
 
   -- all in one
   pub found-is : (id : Id) → found (seen a) id ≡ option_map standing_told (standing a id)

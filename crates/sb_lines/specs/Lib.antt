@@ -4,6 +4,7 @@ pub mod Spots
 pub mod Params
 pub mod Nodes
 pub mod Arena
+pub mod Types
 pub mod Whole
 pub mod Steps
 pub mod Lifting

@@ -10,6 +10,7 @@ mod lowering;
 mod nodes;
 mod params;
 mod spot;
+mod types;
 
 pub use laws::moves_before_another;
 pub use lines::Lines;

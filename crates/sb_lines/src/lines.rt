@@ -16,6 +16,7 @@ ghost use Rattle.sb_lines.specs.Params.{spot_from, spot_told, param_told};
 ghost use Rattle.sb_lines.specs.Spots.{put_in, moved_to, HasSpot, CanPut, IsBeforeOther, spot_of, inst_of, operand};
 
 use crate::arena::Arena;
+use crate::copying::copy;
 use crate::{Before, Found, ParamSpot, Spot};
 use ir_types::{Id, Inst, Module, Opd, OutOfMemory, Place, Ty};
 use std::alloc::Global;
@@ -43,6 +44,13 @@ impl Model for Lines {
 }
 
 impl Lines {
+    /// The module that it holds.
+    pub fn lower(&self) -> Result<Module, OutOfMemory>
+        ensures { IfOk result (λ m. m ≡ seen self.now) }
+    {
+        copy(self.alloc, &self.arena, &self.arena.frame)
+    }
+
     /// Makes room for so many more ids.
     pub fn reserve(&mut self, more: u64) -> Result<(), OutOfMemory>
         ensures same { seen self.new ≡ seen self.old }
@@ -59,6 +67,21 @@ impl Lines {
         ensures { option_map as_told result ≡ option_map told_of (of_module.found (seen self.now) id) }
     {
         self.arena.found(id)
+    }
+
+    /// The parameter of an id, with its function.
+    pub fn param(&self, id: Id) -> Option<ParamSpot>
+        ensures spot { result ≡ spot_from id 0 (funcs_of (seen self.now).items) }
+        ensures param { option_map spot_told result ≡ option_map param_told (param_of id (funcs_of (seen self.now).items)) }
+    {
+        self.arena.params.get(id).copied()
+    }
+
+    /// The type that an operand has in the function of a number.
+    pub fn ty_in(&self, opd: &Opd, func: u32) -> Option<Ty>
+        ensures { result ≡ ty_in (seen self.now) opd.now (slice_get (funcs_of (seen self.now).items) func) }
+    {
+        self.arena.ty_in(opd, func)
     }
 
     /// How many globals the module has.
