@@ -12,3 +12,5 @@ pub mod Wholes
 pub mod Said
 pub mod Kept
 pub mod Typing
+pub mod Opened
+pub mod Lifted

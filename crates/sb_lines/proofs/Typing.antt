@@ -67,7 +67,7 @@ by-param id func (p ∷ ps) = go (same_id p.id id) (by-param id func ps)
 
 -- ---- functions told anew
 
-get-filled : (c : Filling) (n j : ℕ) (fs : List Func) → slice_get (funcs_filled c n fs) j ≡ option_map (func_filled c (n + j)) (slice_get fs j)
+pub get-filled : (c : Filling) (n j : ℕ) (fs : List Func) → slice_get (funcs_filled c n fs) j ≡ option_map (func_filled c (n + j)) (slice_get fs j)
 get-filled c n j [] = refl
 get-filled c n zero (f ∷ fs) = ap (λ k. Some (func_filled c k f)) (add-zero n)
   where
@@ -78,7 +78,7 @@ get-filled c n (suc j) (f ∷ fs) = get-filled c (suc n) j fs ∙ ap (λ k. opti
     next : (a b : ℕ) → suc a + b ≡ a + suc b
     next a b = omega (arith)
 
-none-past : (A : Type 0) (xs : List A) (k : ℕ) → nat_lt k (length xs) ≡ is_some (slice_get xs k)
+pub none-past : (A : Type 0) (xs : List A) (k : ℕ) → nat_lt k (length xs) ≡ is_some (slice_get xs k)
 none-past A [] k = never k
   where
     never : (a : ℕ) → nat_lt a 0 ≡ false

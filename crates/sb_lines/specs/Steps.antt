@@ -12,7 +12,13 @@ use Rattle.sb_lines.specs.Filling.{Filling, at_end}
 use Rattle.sb_lines.specs.Nodes.{held, next, prev}
 use Rattle.sb_lines.specs.Arena.{mark, node, standing, before_held, Told}
 
--- module, parameters and marks
+-- module and parameters
+pub record SameModule (s t : Arena) : Type 0 where
+  pub frame : t.frame ≡ s.frame
+  pub funcs : t.funcs ≡ s.funcs
+  pub params : t.params ≡ s.params
+
+-- and marks
 pub record SameFrame (s t : Arena) : Type 0 where
   pub frame : t.frame ≡ s.frame
   pub funcs : t.funcs ≡ s.funcs

@@ -68,10 +68,12 @@ impl Arena {
     {
         let at = self.node(id)?;
         match self.nodes.get(at) {
-            Some(Node {
-                held: Held::Line { place, inst },
-                ..
-            }) => Some(Found {
+            Some(
+                Node {
+                    held: Held::Line { place, inst },
+                    ..
+                },
+            ) => Some(Found {
                 place: *place,
                 inst,
             }),
@@ -84,10 +86,12 @@ impl Arena {
         ensures { result ≡ id_held self.now at }
     {
         match self.nodes.get(at) {
-            Some(Node {
-                held: Held::Line { inst, .. },
-                ..
-            }) => Some(inst.id),
+            Some(
+                Node {
+                    held: Held::Line { inst, .. },
+                    ..
+                },
+            ) => Some(inst.id),
             _ => None,
         }
     }
@@ -97,14 +101,18 @@ impl Arena {
         ensures { result ≡ place_held self.now at }
     {
         match self.nodes.get(at) {
-            Some(Node {
-                held: Held::Line { place, .. },
-                ..
-            }) => Some(*place),
-            Some(Node {
-                held: Held::Block(place),
-                ..
-            }) => Some(*place),
+            Some(
+                Node {
+                    held: Held::Line { place, .. },
+                    ..
+                },
+            ) => Some(*place),
+            Some(
+                Node {
+                    held: Held::Block(place),
+                    ..
+                },
+            ) => Some(*place),
             _ => None,
         }
     }
@@ -114,14 +122,18 @@ impl Arena {
         ensures { result ≡ before_held self.now at }
     {
         match self.nodes.get(at) {
-            Some(Node {
-                held: Held::Line { inst, .. },
-                ..
-            }) => Some(Before::Line(inst.id)),
-            Some(Node {
-                held: Held::Block(place),
-                ..
-            }) => Some(Before::End(*place)),
+            Some(
+                Node {
+                    held: Held::Line { inst, .. },
+                    ..
+                },
+            ) => Some(Before::Line(inst.id)),
+            Some(
+                Node {
+                    held: Held::Block(place),
+                    ..
+                },
+            ) => Some(Before::End(*place)),
             _ => None,
         }
     }

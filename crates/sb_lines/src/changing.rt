@@ -185,7 +185,8 @@ impl Arena {
         let Some(place) = self.place_at(at) else {
             unreachable!();
         };
-        let Held::Line { inst: old, .. } = hold(&mut self.nodes, at, Held::Line { place, inst }) else {
+        let Held::Line { inst: old, .. } = hold(&mut self.nodes, at, Held::Line { place, inst })
+        else {
             unreachable!();
         };
         old

@@ -66,7 +66,13 @@ fn copy_blocks<F: Fill>(
     let mut left = blocks;
     let mut number = 0;
     while let [block, rest @ ..] = left {
-        let insts = fill.insts(alloc, Place { func, block: number })?;
+        let insts = fill.insts(
+            alloc,
+            Place {
+                func,
+                block: number,
+            },
+        )?;
         copy.push(Block {
             name: block.name.try_clone(alloc)?,
             insts,
@@ -78,7 +84,12 @@ fn copy_blocks<F: Fill>(
 }
 
 /// A copy of the function of a number.
-fn copy_func<F: Fill>(alloc: Global, fill: &F, number: u32, func: &Func) -> Result<Func, OutOfMemory>
+fn copy_func<F: Fill>(
+    alloc: Global,
+    fill: &F,
+    number: u32,
+    func: &Func,
+) -> Result<Func, OutOfMemory>
     ensures { IfOk result (λ copy. copy ≡ func_filled (λ place insts. F.filling fill.now place) number func.now) }
 {
     Ok(Func {
@@ -92,7 +103,12 @@ fn copy_func<F: Fill>(alloc: Global, fill: &F, number: u32, func: &Func) -> Resu
 }
 
 /// A copy of an item before which so many functions stand.
-fn copy_item<F: Fill>(alloc: Global, fill: &F, number: u32, item: &Item) -> Result<Item, OutOfMemory>
+fn copy_item<F: Fill>(
+    alloc: Global,
+    fill: &F,
+    number: u32,
+    item: &Item,
+) -> Result<Item, OutOfMemory>
     ensures { IfOk result (λ copy. copy ≡ item_filled (λ place insts. F.filling fill.now place) number item.now) }
 {
     match item {

@@ -44,6 +44,15 @@ impl Model for Lines {
 }
 
 impl Lines {
+    /// The module that was read, which is copied once. A module in which an id stands twice, of two instructions or of two parameters, is
+    /// answered as for want of memory.
+    pub fn lift(alloc: Global, read: &Module) -> Result<Lines, OutOfMemory>
+        ensures { IfOk result (λ lines. seen lines ≡ read.now) }
+    {
+        let arena = Arena::lift(alloc, read)?;
+        Ok(Lines { arena, alloc })
+    }
+
     /// The module that it holds.
     pub fn lower(&self) -> Result<Module, OutOfMemory>
         ensures { IfOk result (λ m. m ≡ seen self.now) }

@@ -19,10 +19,12 @@ impl Arena {
         ensures { option_copied result ≡ inst_held self.now at }
     {
         match self.nodes.get(at) {
-            Some(Node {
-                held: Held::Line { inst, .. },
-                ..
-            }) => Some(inst),
+            Some(
+                Node {
+                    held: Held::Line { inst, .. },
+                    ..
+                },
+            ) => Some(inst),
             _ => None,
         }
     }

@@ -1,13 +1,13 @@
 //! The nodes of all blocks, each with its neighbours.
 //!
 //! A block is a ring: its mark, and a node for each of its instructions in order. The node before the mark is the last, the one after it the
-//! first, so no node lacks a neighbour. What is taken out of a ring keeps its node, which holds nothing then. Nothing here fails.
+//! first, so no node lacks a neighbour. What is taken out of a ring keeps its node, which holds nothing then. Want of memory is the only failure, of `push_mark`.
 
-ghost use Rattle.std.specs.Prelude.{◌≡◌, ℕ, ◌+◌, ◌<◌, ◌≤◌, cond, ◌==◌, length, vec_capacity};
-ghost use Rattle.sb_lines.specs.declared.nodes.Held.TheVariants.{Gone};
+ghost use Rattle.std.specs.Prelude.{◌≡◌, ℕ, ◌+◌, ◌<◌, ◌≤◌, cond, ◌==◌, length, vec_capacity, OnOk};
+ghost use Rattle.sb_lines.specs.declared.nodes.Held.TheVariants.{Block, Gone};
 ghost use Rattle.sb_lines.specs.Nodes.{held, next, prev, IsLinked, IsUnlinked};
 
-use ir_types::{Inst, Place};
+use ir_types::{Inst, OutOfMemory, Place};
 
 /// What a node holds.
 #[derive(Debug, Drop)]
@@ -82,6 +82,22 @@ pub(crate) fn push_gone(nodes: &mut Vec<Node>)
     if nodes.push(node).is_err() {
         unreachable!();
     }
+}
+
+/// One more node, which is the mark of an empty block.
+pub(crate) fn push_mark(nodes: &mut Vec<Node>, place: Place) -> Result<(), OutOfMemory>
+    ensures next { OnOk result ((x : ℕ) → next nodes.new.items x ≡ cond (length nodes.old.items == x) (length nodes.old.items) (next nodes.old.items x)) }
+    ensures prev { OnOk result ((x : ℕ) → prev nodes.new.items x ≡ cond (length nodes.old.items == x) (length nodes.old.items) (prev nodes.old.items x)) }
+    ensures held { OnOk result ((x : ℕ) → held nodes.new.items x ≡ cond (length nodes.old.items == x) (Block place) (held nodes.old.items x)) }
+    ensures length { OnOk result (length nodes.new.items ≡ length nodes.old.items + 1) }
+{
+    let at = nodes.len();
+    nodes.push(Node {
+        held: Held::Block(place),
+        prev: at,
+        next: at,
+    })?;
+    Ok(())
 }
 
 /// Links a node in before another.

@@ -14,5 +14,5 @@ put_line-requires-clause-place c =
 pub returns-clause-contents : goal.returns-clause-contents
 returns-clause-contents c =
     let before : before_held c.enter-at.new.self c.in-Some.spot ≡ Some c.args.before =
-        ap before_in (c.enter-at.ensures.held c.in-Some.spot) ∙ spot-before c.args.self.now c.requires.rings c.args.before c.in-Some.spot c.requires.place (sym c.spot.ensures ∙ c.in-Some.is) in
+    ap before_in (c.enter-at.ensures.held c.in-Some.spot) ∙ spot-before c.args.self.now c.requires.rings c.args.before c.in-Some.spot c.requires.place (sym c.spot.ensures ∙ c.in-Some.is) in
     λ q. c.put_line.ensures.contents c.args.before before q ∙ ap (coming c.args.before c.args.inst q) (c.enter-at.ensures.contents q)
