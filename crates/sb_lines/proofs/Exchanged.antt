@@ -1,22 +1,19 @@
 -- An instruction in the place of another with its id, and what leaves all nodes as they were.
-use Rattle.std.proofs.Common.{◌≡◌, refl, sym, ap, ◌∙◌, subst, ℕ, suc, ◌≤◌, ◌<◌, ◌==◌, Bool, true, false, Option, None, Some, IsSome, List, [], ◌∷◌, ◌++◌, length, cond, arith}
-use Rattle.std.proofs.lemmas.Bool.Decides.{nat_tests}
+use Rattle.std.proofs.Common.{◌≡◌, refl, sym, ap, ◌∙◌, subst, ℕ, suc, ◌≤◌, ◌<◌, ◌==◌, Bool, true, false, Option, None, Some, [], ◌∷◌, length, cond, arith}
 use Rattle.ir_types.specs.declared.id.Id.{Id}
 use Rattle.ir_types.specs.declared.id.Place.{Place}
 use Rattle.ir_types.specs.declared.inst.Inst.{Inst}
 use Rattle.ir_types.specs.Available.{same_id}
-use Rattle.ir_types.proofs.Among.{same_is, same_itself}
+use Rattle.ir_types.proofs.Among.{same_is}
 use Rattle.vx_view.specs.Changes.{Edit, each}
-use Rattle.vx_view.specs.Views.{same_place}
 use Rattle.sb_lines.specs.declared.nodes.Held.{Held}
 use Rattle.sb_lines.specs.declared.nodes.Held.TheVariants.{Block, Line, Gone}
 use Rattle.sb_lines.specs.declared.arena.Arena.{Arena}
-use Rattle.sb_lines.specs.Filling.{has_block}
 use Rattle.sb_lines.specs.Nodes.{held, next, prev}
 use Rattle.sb_lines.specs.Arena.{mark, node, contents}
-use Rattle.sb_lines.specs.Whole.{has, Apart, Seg, IsRing, IsStanding, IsOf, IsRings}
+use Rattle.sb_lines.specs.Whole.{has, IsRing, IsStanding, IsOf, IsRings}
 use Rattle.sb_lines.specs.Steps.{SameFrame, IsKept}
-use Rattle.sb_lines.proofs.Rings.{false-true, eq-is, eq-itself, eq-not, eq-other, hit, miss, seg-same}
+use Rattle.sb_lines.proofs.Rings.{eq-is, eq-itself, eq-other, hit, miss, seg-same}
 use Rattle.sb_lines.proofs.Walks.{insts, insts-same, insts-set, insts-kept}
 use Rattle.sb_lines.proofs.Standing.{none-some, some-is, line-place, line-inst, gone-line, block-line, gone-block, contents-is, contents-none, only-at, mark-same, some-there, there-some, in-bounds}
 

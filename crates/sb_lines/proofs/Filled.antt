@@ -1,11 +1,10 @@
 -- Modules with the instructions of each block told anew: what two tellings make, and what stays.
-use Rattle.std.proofs.Common.{◌≡◌, refl, sym, ap, ◌∙◌, subst, ℕ, zero, suc, ◌+◌, ◌<◌, Bool, true, false, nat_lt, Option, None, Some, IsSome, List, [], ◌∷◌, ◌++◌, length, map, cond, slice_get, option_map, option_and_then, arith}
+use Rattle.std.proofs.Common.{◌≡◌, refl, sym, ap, ◌∙◌, ℕ, zero, suc, ◌+◌, Bool, true, false, nat_lt, None, List, [], ◌∷◌, length, map, cond, slice_get, option_map, arith}
 use Rattle.std.proofs.Math.Path.{fun_ext}
 use Rattle.std.proofs.lemmas.Bool.Decides.{nat_tests}
 use Rattle.ir_types.specs.declared.id.Id.{Id}
 use Rattle.ir_types.specs.declared.id.Place.{Place}
 use Rattle.ir_types.specs.declared.inst.Inst.{Inst}
-use Rattle.ir_types.specs.declared.func.Param.{Param}
 use Rattle.ir_types.specs.declared.func.Block.{Block}
 use Rattle.ir_types.specs.declared.func.Func.{Func}
 use Rattle.ir_types.specs.declared.module.Item.{Item}
@@ -13,7 +12,6 @@ use Rattle.ir_types.specs.declared.module.Item.TheVariants.{Kept, Opaque, Func a
 use Rattle.ir_types.specs.declared.module.Module.{Module}
 use Rattle.vx_view.specs.Answers.{funcs_of, param_in, param_of, either, id_of, first_of, first_in}
 use Rattle.vx_view.specs.Changes.{Edit, each, edited_block, edited_item, edited}
-use Rattle.sb_lines.specs.declared.params.ParamSpot.{ParamSpot}
 use Rattle.sb_lines.specs.declared.spot.Before.{Before}
 use Rattle.sb_lines.specs.declared.spot.Before.TheVariants.{Line, End}
 use Rattle.sb_lines.specs.declared.arena.Arena.{Arena}

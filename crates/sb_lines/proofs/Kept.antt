@@ -1,6 +1,6 @@
 -- Parameters as they are kept, one after another.
 use Rattle.std.proofs.Common.{◌≡◌, refl, sym, ap, ◌∙◌, subst, ℕ, zero, suc, ◌+◌, ◌<◌, ◌==◌, Bool, true, false, Option, None, Some, List, [], ◌∷◌, length, drop, cond, get_or, slice_get, option_map, arith}
-use Rattle.std.proofs.lemmas.List.{drop_more, drop_all}
+use Rattle.std.proofs.lemmas.List.{drop_more}
 use Rattle.ir_types.specs.declared.id.Id.{Id}
 use Rattle.ir_types.specs.declared.func.Param.{Param}
 use Rattle.ir_types.specs.declared.func.Func.{Func}
@@ -10,10 +10,9 @@ use Rattle.ir_types.specs.Available.{same_id}
 use Rattle.ir_types.proofs.Among.{same_is}
 use Rattle.vx_view.specs.Answers.{funcs_of, param_in, param_of, either}
 use Rattle.sb_lines.specs.declared.params.ParamSpot.{ParamSpot}
-use Rattle.sb_lines.specs.Filling.{func_after}
 use Rattle.sb_lines.specs.Params.{spot_of, spot_from, of_func, param_there, spots_in, spots_at, spot_told, param_told}
-use Rattle.sb_lines.proofs.Rings.{eq-is, eq-itself, eq-other, hit, miss}
-use Rattle.sb_lines.proofs.Standing.{none-some, some-is}
+use Rattle.sb_lines.proofs.Rings.{eq-is, eq-itself, eq-other}
+use Rattle.sb_lines.proofs.Standing.{none-some}
 
 -- an item of a list, and those after it
 pub split : {A : Type 0} (xs : List A) (i : ℕ) (x : A) → i < length xs → x ≡ get_or xs i x → drop i xs ≡ x ∷ drop (i + 1) xs

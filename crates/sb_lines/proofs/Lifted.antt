@@ -1,6 +1,5 @@
 -- What was lifted is the module.
-use Rattle.std.proofs.Common.{◌≡◌, refl, sym, ap, ◌∙◌, subst, ℕ, zero, suc, ◌+◌, ◌≤◌, ◌<◌, ◌==◌, Bool, true, false, nat_lt, Option, None, Some, IsSome, is_some, List, [], ◌∷◌, ◌++◌, length, cond, slice_get, option_map, option_and_then, arith}
-use Rattle.std.proofs.lemmas.Bool.Decides.{nat_tests}
+use Rattle.std.proofs.Common.{◌≡◌, refl, sym, ap, ◌∙◌, ℕ, zero, suc, ◌+◌, false, Option, None, Some, is_some, List, [], ◌∷◌, length, cond, slice_get, option_map, arith}
 use Rattle.ir_types.specs.declared.id.Id.{Id}
 use Rattle.ir_types.specs.declared.id.Place.{Place}
 use Rattle.ir_types.specs.declared.inst.Inst.{Inst}
@@ -12,14 +11,13 @@ use Rattle.ir_types.specs.declared.module.Module.{Module}
 use Rattle.ir_types.specs.IdTable.{found as item_of}
 use Rattle.vx_view.specs.Answers.{funcs_of, either}
 use Rattle.vx_view.specs.Views.{same_place}
-use Rattle.sb_lines.specs.declared.params.ParamSpot.{ParamSpot}
 use Rattle.sb_lines.specs.declared.arena.Arena.{Arena}
 use Rattle.sb_lines.specs.Filling.{Filling, place_of, blocks_filled, func_filled, items_filled, filled, block_in, has_block}
 use Rattle.sb_lines.specs.Params.{of_func, param_there, spots_at}
 use Rattle.sb_lines.specs.Arena.{mark, contents, seen}
 use Rattle.sb_lines.specs.Whole.{IsRings, IsWhole}
-use Rattle.sb_lines.specs.Lifting.{shown, blocks_at, item_at, items_at}
-use Rattle.sb_lines.proofs.Rings.{false-true, eq-not, hit, miss, to-false}
+use Rattle.sb_lines.specs.Lifting.{shown, blocks_at, items_at}
+use Rattle.sb_lines.proofs.Rings.{hit, miss, to-false}
 use Rattle.sb_lines.proofs.Standing.{place-is, place-itself, none-some, some-is}
 use Rattle.sb_lines.proofs.Filled.{funcs_filled, funcs-filled, filled-again, has-filled}
 use Rattle.sb_lines.proofs.Typing.{get-filled, none-past}

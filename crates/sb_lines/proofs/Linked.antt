@@ -1,25 +1,24 @@
 -- An instruction that came: the nodes are rings still, and each block has what the change says.
-use Rattle.std.proofs.Common.{◌≡◌, refl, sym, ap, ◌∙◌, subst, ℕ, ◌≤◌, ◌<◌, ◌==◌, Bool, true, false, Option, None, Some, IsSome, List, [], ◌∷◌, ◌++◌, length, cond, arith}
+use Rattle.std.proofs.Common.{◌≡◌, refl, sym, ap, ◌∙◌, subst, ℕ, ◌≤◌, ◌<◌, ◌==◌, Bool, true, false, Option, None, Some, List, [], ◌∷◌, ◌++◌, length, cond, arith}
 use Rattle.ir_types.specs.declared.id.Id.{Id}
 use Rattle.ir_types.specs.declared.id.Place.{Place}
 use Rattle.ir_types.specs.declared.inst.Inst.{Inst}
-use Rattle.ir_types.specs.Available.{same_id}
 use Rattle.ir_types.proofs.Among.{same_itself}
-use Rattle.vx_view.specs.Changes.{Edit, each, inserting}
+use Rattle.vx_view.specs.Changes.{each, inserting}
 use Rattle.vx_view.specs.Views.{same_place}
 use Rattle.sb_lines.specs.declared.nodes.Held.{Held}
 use Rattle.sb_lines.specs.declared.nodes.Held.TheVariants.{Block, Line, Gone}
 use Rattle.sb_lines.specs.declared.spot.Before.{Before}
-use Rattle.sb_lines.specs.declared.spot.Before.TheVariants.{Line as BeforeLine, End}
+use Rattle.sb_lines.specs.declared.spot.Before.TheVariants.{End}
 use Rattle.sb_lines.specs.declared.arena.Arena.{Arena}
-use Rattle.sb_lines.specs.Filling.{has_block, at_end}
+use Rattle.sb_lines.specs.Filling.{at_end}
 use Rattle.sb_lines.specs.Nodes.{held, next, prev}
 use Rattle.sb_lines.specs.Arena.{mark, node, contents, place_in, before_in}
-use Rattle.sb_lines.specs.Whole.{has, Apart, Seg, IsRing, IsStanding, IsOf, IsRings}
+use Rattle.sb_lines.specs.Whole.{has, IsRing, IsStanding, IsOf, IsRings}
 use Rattle.sb_lines.specs.Steps.{SameFrame, coming}
-use Rattle.sb_lines.proofs.Rings.{false-true, eq-is, eq-itself, eq-not, eq-other, to-false, hit, miss, seg-same, put_before, PutIn, put-in, put-apart, has-put, prev-in, last-in, prev-next, last-back}
-use Rattle.sb_lines.proofs.Walks.{insts, IsKept, AllKept, OthersKept, insts-same, insts-in, insts-kept, insts-end}
-use Rattle.sb_lines.proofs.Standing.{place-is, place-itself, place-not, none-some, some-is, line-place, line-inst, gone-line, gone-block, block-line, mark-lacks, gone-lacks, contents-is, contents-none, home, only-at, mark-same, some-there, there-some}
+use Rattle.sb_lines.proofs.Rings.{false-true, eq-is, eq-itself, eq-not, eq-other, to-false, hit, miss, seg-same, put_before, put-in, put-apart, has-put, prev-in, last-in, prev-next, last-back}
+use Rattle.sb_lines.proofs.Walks.{insts, IsKept, insts-same, insts-in, insts-kept, insts-end}
+use Rattle.sb_lines.proofs.Standing.{place-is, place-itself, place-not, none-some, some-is, line-place, line-inst, block-line, mark-lacks, gone-lacks, contents-is, contents-none, home, only-at, mark-same, some-there, there-some}
 
 -- what the writes leave that link a node in with an instruction
 pub record LinkedIn (s t : Arena) (at spot : ℕ) (place : Place) (inst : Inst) : Type 0 where

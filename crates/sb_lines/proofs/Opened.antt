@@ -1,22 +1,21 @@
 -- A block that gets its mark is empty, and all others stay.
-use Rattle.std.proofs.Common.{◌≡◌, refl, sym, ap, ◌∙◌, subst, ℕ, suc, ◌≤◌, ◌<◌, ◌==◌, Bool, true, false, Option, None, Some, IsSome, is_some, List, [], ◌∷◌, ◌++◌, length, cond, option_map, arith}
+use Rattle.std.proofs.Common.{◌≡◌, refl, sym, ap, ◌∙◌, subst, ℕ, ◌≤◌, ◌<◌, ◌==◌, Bool, true, false, Option, None, Some, IsSome, is_some, List, [], ◌∷◌, ◌++◌, length, cond, option_map, arith}
 use Rattle.std.proofs.lemmas.List.{append_assoc}
 use Rattle.ir_types.specs.declared.id.Id.{Id}
 use Rattle.ir_types.specs.declared.id.Place.{Place}
 use Rattle.ir_types.specs.declared.inst.Inst.{Inst}
 use Rattle.vx_view.specs.Answers.{either}
 use Rattle.vx_view.specs.Views.{same_place}
-use Rattle.sb_lines.specs.declared.nodes.Held.{Held}
 use Rattle.sb_lines.specs.declared.nodes.Held.TheVariants.{Block, Line, Gone}
 use Rattle.sb_lines.specs.declared.arena.Arena.{Arena}
 use Rattle.sb_lines.specs.Nodes.{held, next, prev}
 use Rattle.sb_lines.specs.Arena.{mark, node, contents}
-use Rattle.sb_lines.specs.Whole.{has, Apart, Seg, IsRing, IsStanding, IsOf, IsRings}
+use Rattle.sb_lines.specs.Whole.{has, IsRing, IsStanding, IsOf, IsRings}
 use Rattle.sb_lines.specs.Steps.{SameFrame}
 use Rattle.sb_lines.specs.Lifting.{shown}
-use Rattle.sb_lines.proofs.Rings.{false-true, eq-is, eq-itself, eq-not, eq-other, hit, miss, seg-same}
+use Rattle.sb_lines.proofs.Rings.{false-true, eq-is, eq-itself, eq-other, hit, miss, seg-same}
 use Rattle.sb_lines.proofs.Walks.{insts, insts-kept}
-use Rattle.sb_lines.proofs.Standing.{place-is, place-itself, none-some, some-is, line-place, gone-line, gone-block, block-line, line-bound, contents-is, contents-none, in-bounds, some-there, there-some, mark-same}
+use Rattle.sb_lines.proofs.Standing.{place-is, place-itself, none-some, some-is, gone-line, gone-block, block-line, contents-is, in-bounds, some-there, there-some, mark-same}
 
 block-place : {p q : Place} → Block p ≡ Block q → p ≡ q
 block-place h = cc

@@ -1,21 +1,21 @@
 -- What the changes say in the words of the module.
-use Rattle.std.proofs.Common.{◌≡◌, refl, sym, ap, ◌∙◌, subst, ℕ, Bool, true, false, Option, None, Some, IsSome, is_some, List, option_map, option_and_then}
+use Rattle.std.proofs.Common.{◌≡◌, refl, sym, ap, ◌∙◌, Option, None, Some, IsSome, option_map, option_and_then}
 use Rattle.ir_types.specs.declared.id.Id.{Id}
 use Rattle.ir_types.specs.declared.id.Place.{Place}
 use Rattle.ir_types.specs.declared.inst.Inst.{Inst}
-use Rattle.vx_view.specs.Answers.{found, Standing, after}
+use Rattle.vx_view.specs.Answers.{found, after}
 use Rattle.vx_view.specs.Changes.{Edit, each, edited, removing}
 use Rattle.sb_lines.specs.declared.nodes.Held.{Held}
 use Rattle.sb_lines.specs.declared.nodes.Held.TheVariants.{Block, Line as LineHeld, Gone}
 use Rattle.sb_lines.specs.declared.spot.Before.{Before}
-use Rattle.sb_lines.specs.declared.spot.Before.TheVariants.{Line, End}
+use Rattle.sb_lines.specs.declared.spot.Before.TheVariants.{End}
 use Rattle.sb_lines.specs.declared.spot.Spot.{Spot}
 use Rattle.sb_lines.specs.declared.arena.Arena.{Arena}
 use Rattle.sb_lines.specs.Filling.{filled}
 use Rattle.sb_lines.specs.Nodes.{held, next}
 use Rattle.sb_lines.specs.Spots.{put_in, moved_in, moved_to, spot_of, or_end}
 use Rattle.sb_lines.specs.Arena.{node, contents, seen, standing, place_in, before_in, before_held, id_in, Told}
-use Rattle.sb_lines.specs.Whole.{IsRings, IsWhole}
+use Rattle.sb_lines.specs.Whole.{IsWhole}
 use Rattle.sb_lines.specs.Steps.{SameFrame, IsKept, coming, stood_before, told_inst}
 use Rattle.sb_lines.proofs.Standing.{none-some, some-is}
 use Rattle.sb_lines.proofs.Unlinked.{after-at}

@@ -1,5 +1,5 @@
 -- What rings say of one node, and of what stands in a block.
-use Rattle.std.proofs.Common.{◌≡◌, refl, sym, ap, ◌∙◌, subst, ℕ, zero, suc, ◌≤◌, ◌<◌, ◌==◌, ◌&&◌, Bool, true, false, Option, None, Some, IsSome, List, [], ◌∷◌, length, cond, slice_get, nat_eq, arith}
+use Rattle.std.proofs.Common.{◌≡◌, refl, sym, ap, ◌∙◌, subst, ℕ, zero, suc, ◌≤◌, ◌<◌, ◌==◌, ◌&&◌, Bool, true, false, Option, None, Some, IsSome, List, [], ◌∷◌, length, nat_eq, arith}
 use Rattle.std.proofs.lemmas.Bool.Decides.{nat_tests}
 use Rattle.std.specs.HashMap.{get}
 use Rattle.ir_types.specs.declared.id.Id.{Id}
@@ -12,12 +12,12 @@ use Rattle.sb_lines.specs.declared.nodes.Held.{Held}
 use Rattle.sb_lines.specs.declared.nodes.Held.TheVariants.{Block, Line, Gone}
 use Rattle.sb_lines.specs.declared.nodes.Node.{Node}
 use Rattle.sb_lines.specs.declared.arena.Arena.{Arena}
-use Rattle.sb_lines.specs.Nodes.{held, held_in, next, prev, line_then}
+use Rattle.sb_lines.specs.Nodes.{held, next, prev, line_then}
 use Rattle.sb_lines.specs.Arena.{mark, node, contents, lines_from, place_in, same_key, key_of}
-use Rattle.sb_lines.specs.Whole.{has, Apart, Seg, IsRing, IsStanding, IsOf, IsRings}
+use Rattle.sb_lines.specs.Whole.{has, IsRing, IsRings}
 use Rattle.sb_lines.specs.Steps.{SameFrame}
-use Rattle.sb_lines.proofs.Rings.{false-true, eq-is, eq-itself, eq-not, eq-other, eq-true, to-false, few, prev-in, last-in, next-in}
-use Rattle.sb_lines.proofs.Walks.{insts, AreLines, walked}
+use Rattle.sb_lines.proofs.Rings.{false-true, eq-is, eq-not, to-false, few}
+use Rattle.sb_lines.proofs.Walks.{insts, walked}
 
 -- ---- places
 

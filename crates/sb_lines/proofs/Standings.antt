@@ -1,5 +1,5 @@
 -- What the module that is held answers of an id is what its node says.
-use Rattle.std.proofs.Common.{◌≡◌, refl, sym, ap, ◌∙◌, subst, ℕ, zero, suc, ◌+◌, ◌<◌, ◌==◌, Bool, true, false, nat_lt, Option, None, Some, IsSome, List, [], ◌∷◌, length, map, cond, slice_get, option_map, option_and_then, arith}
+use Rattle.std.proofs.Common.{◌≡◌, refl, sym, ap, ◌∙◌, subst, ℕ, zero, suc, ◌+◌, ◌==◌, Bool, true, false, nat_lt, Option, None, Some, IsSome, List, [], ◌∷◌, length, cond, slice_get, option_map, option_and_then, arith}
 use Rattle.std.proofs.lemmas.Bool.Decides.{nat_tests}
 use Rattle.ir_types.specs.declared.id.Id.{Id}
 use Rattle.ir_types.specs.declared.id.Place.{Place}
@@ -14,13 +14,13 @@ use Rattle.vx_view.specs.Views.{same_place}
 use Rattle.sb_lines.specs.declared.nodes.Held.{Held}
 use Rattle.sb_lines.specs.declared.nodes.Held.TheVariants.{Block as BlockHeld, Line, Gone}
 use Rattle.sb_lines.specs.declared.arena.Arena.{Arena}
-use Rattle.sb_lines.specs.Filling.{Filling, place_of, blocks_filled, func_filled, filled, block_in, has_block}
+use Rattle.sb_lines.specs.Filling.{Filling, place_of, blocks_filled, filled, block_in, has_block}
 use Rattle.sb_lines.specs.Nodes.{held, next, prev, line_then}
 use Rattle.sb_lines.specs.Arena.{mark, node, contents, seen, standing, Told, told_of, id_in, id_held, line_of, next_of, prev_of, first_of}
-use Rattle.sb_lines.specs.Whole.{has, Apart, Seg, IsRings, IsWhole}
-use Rattle.sb_lines.proofs.Rings.{false-true, eq-is, eq-itself, eq-not, eq-other, to-false, hit, miss, has-head, has-more, lacks-more}
+use Rattle.sb_lines.specs.Whole.{has, Seg, IsWhole}
+use Rattle.sb_lines.proofs.Rings.{false-true, eq-is, eq-not, eq-other, to-false, hit, miss, has-head, has-more}
 use Rattle.sb_lines.proofs.Walks.{insts, AreLines, more-lines, OnlyAt, find-there, only-more}
-use Rattle.sb_lines.proofs.Standing.{place-is, place-itself, place-not, none-some, some-is, line-place, id-other, contents-is, contents-none, only-at, some-there}
+use Rattle.sb_lines.proofs.Standing.{place-is, place-not, none-some, line-place, id-other, contents-is, contents-none, only-at, some-there}
 use Rattle.sb_lines.proofs.Filled.{funcs_filled, funcs-filled, first-filled}
 use Rattle.sb_lines.proofs.Stood.{StandsAt, stands, told-is, gone-at}
 

@@ -1,5 +1,5 @@
 -- Where an instruction stands by its node, before and after a change.
-use Rattle.std.proofs.Common.{◌≡◌, refl, sym, ap, ◌∙◌, subst, ℕ, ◌<◌, ◌==◌, Bool, true, false, Option, None, Some, IsSome, List, cond, option_and_then, option_map, length}
+use Rattle.std.proofs.Common.{◌≡◌, refl, sym, ap, ◌∙◌, subst, ℕ, ◌<◌, ◌==◌, Bool, true, false, Option, None, Some, IsSome, option_and_then, length}
 use Rattle.ir_types.specs.declared.id.Id.{Id}
 use Rattle.ir_types.specs.declared.id.Place.{Place}
 use Rattle.ir_types.specs.declared.inst.Inst.{Inst}
@@ -9,12 +9,12 @@ use Rattle.sb_lines.specs.declared.nodes.Held.TheVariants.{Block, Line, Gone}
 use Rattle.sb_lines.specs.declared.spot.Before.{Before}
 use Rattle.sb_lines.specs.declared.spot.Before.TheVariants.{Line as BeforeLine, End}
 use Rattle.sb_lines.specs.declared.arena.Arena.{Arena}
-use Rattle.sb_lines.specs.Nodes.{held, next, prev}
-use Rattle.sb_lines.specs.Arena.{mark, node, spot, standing, told_held, Told, place_in, place_held, before_in, before_held}
+use Rattle.sb_lines.specs.Nodes.{held}
+use Rattle.sb_lines.specs.Arena.{mark, node, spot, standing, told_held, place_in, before_in, before_held}
 use Rattle.sb_lines.specs.Whole.{IsOf, IsRings}
-use Rattle.sb_lines.specs.Steps.{HasPlace, told_inst}
-use Rattle.sb_lines.proofs.Rings.{false-true, eq-is, eq-other, hit, miss}
-use Rattle.sb_lines.proofs.Standing.{none-some, some-is, id-not, gone-line, in-bounds, some-there}
+use Rattle.sb_lines.specs.Steps.{HasPlace}
+use Rattle.sb_lines.proofs.Rings.{false-true, eq-is}
+use Rattle.sb_lines.proofs.Standing.{none-some, some-is, id-not, in-bounds, some-there}
 
 -- the node of an instruction that stands in a block
 pub record StandsAt (a : Arena) (id : Id) : Type 0 where

@@ -1,31 +1,27 @@
 -- The type of an operand in a function of the module is what is kept.
-use Rattle.std.proofs.Common.{◌≡◌, refl, sym, ap, ◌∙◌, subst, ℕ, zero, suc, ◌+◌, ◌<◌, ◌==◌, Bool, true, false, nat_lt, Option, None, Some, IsSome, is_some, List, [], ◌∷◌, length, cond, slice_get, option_map, if◌then◌else◌, arith}
+use Rattle.std.proofs.Common.{◌≡◌, refl, sym, ap, ◌∙◌, subst, ℕ, zero, suc, ◌+◌, ◌==◌, Bool, true, false, nat_lt, Option, None, Some, is_some, List, [], ◌∷◌, length, cond, slice_get, option_map, if◌then◌else◌, arith}
 use Rattle.std.proofs.lemmas.Bool.Decides.{nat_tests}
 use Rattle.ir_types.specs.declared.id.Id.{Id}
 use Rattle.ir_types.specs.declared.id.Place.{Place}
 use Rattle.ir_types.specs.declared.ty.Ty.{Ty}
-use Rattle.ir_types.specs.declared.ty.Ty.TheVariants.{Ptr}
 use Rattle.ir_types.specs.declared.opd.Opd.{Opd}
 use Rattle.ir_types.specs.declared.opd.Opd.TheVariants.{Val, Lit, Sym}
 use Rattle.ir_types.specs.declared.inst.Inst.{Inst}
 use Rattle.ir_types.specs.declared.func.Param.{Param}
 use Rattle.ir_types.specs.declared.func.Block.{Block}
 use Rattle.ir_types.specs.declared.func.Func.{Func}
-use Rattle.ir_types.specs.declared.module.Module.{Module}
 use Rattle.ir_types.specs.Available.{same_id}
 use Rattle.ir_types.specs.Formed.{given_ty, or_else, ty_in_insts, ty_in_blocks, ty_in_params, value_ty}
-use Rattle.ir_types.specs.IdTable.{found as item_of}
 use Rattle.vx_view.specs.Answers.{funcs_of, find, Standing, standing_in, either, param_in}
 use Rattle.vx_view.specs.Answers as of_module
 use Rattle.vx_view.specs.Changes as change
 use Rattle.vx_view.specs.Views.{same_place}
-use Rattle.sb_lines.specs.declared.params.ParamSpot.{ParamSpot}
 use Rattle.sb_lines.specs.declared.arena.Arena.{Arena}
-use Rattle.sb_lines.specs.Filling.{Filling, place_of, blocks_filled, func_filled, filled, block_in, has_block}
-use Rattle.sb_lines.specs.Params.{spot_of, of_func, param_there}
+use Rattle.sb_lines.specs.Filling.{Filling, place_of, blocks_filled, func_filled, block_in, has_block}
+use Rattle.sb_lines.specs.Params.{spot_of, param_there}
 use Rattle.sb_lines.specs.Types as types
 use Rattle.sb_lines.specs.Types.{spot_ty, line_ty}
-use Rattle.sb_lines.specs.Arena.{mark, contents, seen, standing, Told}
+use Rattle.sb_lines.specs.Arena.{contents, seen, standing, Told}
 use Rattle.sb_lines.specs.Whole.{IsWhole}
 use Rattle.sb_lines.proofs.Rings.{false-true, eq-is, eq-itself, eq-other, eq-not, hit, miss}
 use Rattle.sb_lines.proofs.Standing.{none-some}

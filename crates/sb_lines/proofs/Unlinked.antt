@@ -1,24 +1,22 @@
 -- An instruction that went: the nodes are rings still, and each block is without it; where it stood it can come back.
-use Rattle.std.proofs.Common.{◌≡◌, refl, sym, ap, ◌∙◌, subst, ℕ, ◌≤◌, ◌<◌, ◌==◌, Bool, true, false, Option, None, Some, IsSome, List, [], ◌∷◌, ◌++◌, length, cond, arith}
+use Rattle.std.proofs.Common.{◌≡◌, refl, sym, ap, ◌∙◌, subst, ℕ, ◌≤◌, ◌<◌, ◌==◌, Bool, true, false, Option, None, Some, List, [], ◌∷◌, length, cond, arith}
 use Rattle.ir_types.specs.declared.id.Id.{Id}
 use Rattle.ir_types.specs.declared.id.Place.{Place}
 use Rattle.ir_types.specs.declared.inst.Inst.{Inst}
-use Rattle.ir_types.specs.Available.{same_id}
 use Rattle.ir_types.proofs.Among.{same_itself}
-use Rattle.vx_view.specs.Changes.{Edit, each, removing}
+use Rattle.vx_view.specs.Changes.{each, removing}
 use Rattle.vx_view.specs.Views.{same_place}
 use Rattle.sb_lines.specs.declared.nodes.Held.{Held}
 use Rattle.sb_lines.specs.declared.nodes.Held.TheVariants.{Block, Line, Gone}
 use Rattle.sb_lines.specs.declared.spot.Before.{Before}
 use Rattle.sb_lines.specs.declared.arena.Arena.{Arena}
-use Rattle.sb_lines.specs.Filling.{has_block}
 use Rattle.sb_lines.specs.Nodes.{held, next, prev}
 use Rattle.sb_lines.specs.Arena.{mark, node, contents, place_in, before_in}
-use Rattle.sb_lines.specs.Whole.{has, Apart, Seg, IsRing, IsStanding, IsOf, IsRings}
+use Rattle.sb_lines.specs.Whole.{has, IsRing, IsStanding, IsOf, IsRings}
 use Rattle.sb_lines.specs.Steps.{SameFrame, coming}
-use Rattle.sb_lines.proofs.Rings.{false-true, eq-is, eq-itself, eq-not, eq-other, eq-true, to-false, hit, miss, seg-same, without, TakenOut, take-out, without-apart, has-without, prev-in, next-in, prev-next, next-prev, loops}
-use Rattle.sb_lines.proofs.Walks.{insts, IsKept, insts-same, insts-out}
-use Rattle.sb_lines.proofs.Standing.{place-is, place-itself, place-not, none-some, some-is, line-place, line-inst, gone-line, gone-block, block-line, mark-lacks, contents-is, contents-none, home, only-at, mark-same, some-there, there-some, in-bounds}
+use Rattle.sb_lines.proofs.Rings.{false-true, eq-is, eq-itself, eq-not, eq-other, hit, miss, seg-same, without, take-out, without-apart, has-without, prev-in, next-in, prev-next, next-prev, loops}
+use Rattle.sb_lines.proofs.Walks.{insts, insts-same, insts-out}
+use Rattle.sb_lines.proofs.Standing.{place-is, place-not, some-is, gone-line, gone-block, block-line, mark-lacks, contents-is, contents-none, home, only-at, mark-same, some-there, there-some}
 use Rattle.sb_lines.proofs.Linked.{LinkedIn, linked-contents}
 
 -- what the writes leave that take a node out, up to its own links

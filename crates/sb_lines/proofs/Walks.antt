@@ -1,17 +1,17 @@
 -- The instructions along a ring, and what they become where one comes, goes or is put in the place of another.
-use Rattle.std.proofs.Common.{◌≡◌, refl, sym, ap, ◌∙◌, subst, ℕ, zero, suc, ◌-◌, ◌<◌, ◌≤◌, ◌==◌, Bool, true, false, Option, None, Some, List, [], ◌∷◌, ◌++◌, length, cond, arith}
+use Rattle.std.proofs.Common.{◌≡◌, refl, sym, ap, ◌∙◌, ℕ, zero, suc, ◌-◌, ◌<◌, ◌≤◌, ◌==◌, Bool, true, false, None, Some, List, [], ◌∷◌, ◌++◌, length, cond, arith}
 use Rattle.ir_types.specs.declared.id.Id.{Id}
 use Rattle.ir_types.specs.declared.id.Place.{Place}
 use Rattle.ir_types.specs.declared.inst.Inst.{Inst}
 use Rattle.ir_types.specs.Available.{same_id}
-use Rattle.vx_view.specs.Answers.{find, after, before, id_of}
+use Rattle.vx_view.specs.Answers.{find}
 use Rattle.vx_view.specs.Changes.{Edit, each}
 use Rattle.sb_lines.specs.declared.nodes.Held.{Held}
 use Rattle.sb_lines.specs.declared.nodes.Held.TheVariants.{Block, Line, Gone}
 use Rattle.sb_lines.specs.Nodes.{lines, line_then}
-use Rattle.sb_lines.specs.Arena.{id_in, inst_in}
+use Rattle.sb_lines.specs.Arena.{inst_in}
 use Rattle.sb_lines.specs.Whole.{has, Apart, Seg}
-use Rattle.sb_lines.proofs.Rings.{false-true, eq-is, eq-itself, eq-not, eq-other, eq-true, hit, miss, has-head, has-more, has-split, lacks-head, lacks-more, differ, without, put_before}
+use Rattle.sb_lines.proofs.Rings.{false-true, eq-is, eq-not, eq-other, miss, has-head, has-more, lacks-head, lacks-more, differ, without, put_before}
 
 -- ---- the instructions of some nodes
 

@@ -1,26 +1,20 @@
 -- The whole of what is held, and what is said of it in the words of its module.
-use Rattle.std.proofs.Common.{◌≡◌, refl, sym, ap, ◌∙◌, subst, ℕ, Bool, true, false, Option, None, Some, IsSome, is_some, List, length, option_map, option_and_then, slice_get}
+use Rattle.std.proofs.Common.{◌≡◌, refl, sym, ap, ◌∙◌, subst, ℕ, Option, None, Some, IsSome, is_some, length, option_map, option_and_then, slice_get}
 use Rattle.ir_types.specs.declared.id.Id.{Id}
-use Rattle.ir_types.specs.declared.id.Place.{Place}
-use Rattle.ir_types.specs.declared.opd.Opd.{Opd}
-use Rattle.ir_types.specs.declared.inst.Inst.{Inst}
-use Rattle.ir_types.specs.Available.{same_id}
 use Rattle.ir_types.specs.IdTable.{found as item_of}
 use Rattle.vx_view.specs.Answers.{funcs_of, found, Standing}
-use Rattle.vx_view.specs.Changes.{Edit, each, edited, removing}
 use Rattle.sb_lines.specs.declared.spot.Before.{Before}
 use Rattle.sb_lines.specs.declared.spot.Before.TheVariants.{Line, End}
 use Rattle.sb_lines.specs.declared.arena.Arena.{Arena}
 use Rattle.sb_lines.specs.Filling.{has_block}
-use Rattle.sb_lines.specs.Spots.{put_in, moved_in, moved_to, HasSpot, CanPut, inst_of, operand, operand_at, or_end}
-use Rattle.sb_lines.specs.Arena.{mark, contents, seen, standing, Told, told_of}
+use Rattle.sb_lines.specs.Spots.{HasSpot, inst_of, operand, operand_at}
+use Rattle.sb_lines.specs.Arena.{contents, seen, standing, told_of}
 use Rattle.sb_lines.specs.Whole.{IsRings, IsWhole}
 use Rattle.sb_lines.specs.Params.{of_func, param_there}
-use Rattle.sb_lines.specs.Steps.{SameFrame, coming, HasPlace, told_inst, told_operand}
-use Rattle.sb_lines.proofs.Rings.{false-true}
+use Rattle.sb_lines.specs.Steps.{SameFrame, HasPlace, told_inst, told_operand}
 use Rattle.sb_lines.proofs.Standing.{mark-same, none-some}
-use Rattle.sb_lines.proofs.Filled.{has-filled, seen-put, seen-edited, put-filled, filled-again, edited-filled}
-use Rattle.sb_lines.proofs.Standings.{told-found, found-is}
+use Rattle.sb_lines.proofs.Filled.{has-filled}
+use Rattle.sb_lines.proofs.Standings.{told-found}
 
 pub whole-kept : (s t : Arena) → IsWhole s → SameFrame s t → IsRings t → IsWhole t
 whole-kept s t W same R = record {

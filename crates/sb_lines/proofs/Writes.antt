@@ -1,29 +1,28 @@
 -- From the writes of a change to what it leaves.
-use Rattle.std.proofs.Common.{◌≡◌, refl, sym, ap, ◌∙◌, subst, ℕ, zero, suc, ◌+◌, ◌≤◌, ◌<◌, ◌==◌, Bool, true, false, Option, None, Some, IsSome, is_some, List, [], ◌∷◌, length, cond, arith, option_map, option_and_then, slice_set, slice_get}
+use Rattle.std.proofs.Common.{◌≡◌, refl, sym, ap, ◌∙◌, subst, ℕ, zero, suc, ◌+◌, ◌≤◌, ◌<◌, ◌==◌, Bool, true, false, Option, None, Some, IsSome, is_some, List, [], ◌∷◌, length, cond, arith, option_and_then, slice_set, slice_get}
 use Rattle.std.specs.Global.{Vec}
 use Rattle.ir_types.specs.declared.id.Id.{Id}
 use Rattle.ir_types.specs.declared.id.Place.{Place}
 use Rattle.ir_types.specs.declared.opd.Opd.{Opd}
 use Rattle.ir_types.specs.declared.inst.Inst.{Inst}
 use Rattle.ir_types.specs.Available.{same_id}
-use Rattle.ir_types.proofs.Among.{same_is, same_itself}
+use Rattle.ir_types.proofs.Among.{same_itself}
 use Rattle.vx_view.specs.Changes.{Edit, each, putting, setting, with_operand, removing}
 use Rattle.sb_lines.specs.declared.nodes.Held.{Held}
 use Rattle.sb_lines.specs.declared.nodes.Held.TheVariants.{Block, Line, Gone}
 use Rattle.sb_lines.specs.declared.nodes.Node.{Node}
 use Rattle.sb_lines.specs.declared.spot.Before.{Before}
-use Rattle.sb_lines.specs.declared.spot.Before.TheVariants.{Line as BeforeLine, End}
 use Rattle.sb_lines.specs.declared.arena.Arena.{Arena}
 use Rattle.sb_lines.specs.Nodes.{held, next, prev, IsLinked, IsUnlinked}
 use Rattle.sb_lines.specs.Arena.{node, knows, Keeps, contents, standing, told_held, place_in, place_held, before_in, before_held}
 use Rattle.sb_lines.specs.Whole.{IsOf, IsRings}
-use Rattle.sb_lines.specs.Steps.{SameFrame, IsKept, HasPlace, coming, told_inst, told_operand}
+use Rattle.sb_lines.specs.Steps.{SameFrame, IsKept, HasPlace, coming, told_operand}
 use Rattle.sb_lines.proofs.Rings.{false-true, eq-is, eq-itself, eq-other, hit, miss}
-use Rattle.sb_lines.proofs.Standing.{some-is, none-some, line-place, in-bounds, gone-line, gone-block, there-some, mark-same}
+use Rattle.sb_lines.proofs.Standing.{some-is, none-some, in-bounds, gone-line, gone-block, there-some}
 use Rattle.sb_lines.proofs.Linked.{LinkedIn, spot-prev, spot-named, linked-rings, linked-contents}
 use Rattle.sb_lines.proofs.Unlinked.{UnlinkedFrom, before-at, after-at, no-loop, unlinked-rings, unlinked-contents, unlinked-back}
 use Rattle.sb_lines.proofs.Exchanged.{ExchangedAt, exchanged-rings, exchanged-contents, NodesGrew, one-new, kept-rings, kept-contents}
-use Rattle.sb_lines.proofs.Stood.{StandsAt, stands, place-bound, place-before, standing-other, standing-own, standing-kept}
+use Rattle.sb_lines.proofs.Stood.{StandsAt, stands, place-bound, place-before, standing-own, standing-kept}
 
 -- the arena with other nodes
 abbrev pub with_nodes : Arena → Vec Node → Arena

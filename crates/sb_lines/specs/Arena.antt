@@ -1,5 +1,5 @@
 -- What `Lines` holds: its module, the ids that have a node, and the room for more.
-use Rattle.std.specs.Prelude.{◌≡◌, ℕ, ◌-◌, ◌==◌, ◌&&◌, min, Bool, true, Option, None, Some, is_some, List, [], length, slice_get, vec_capacity, option_and_then, option_map}
+use Rattle.std.specs.Prelude.{◌≡◌, ℕ, ◌-◌, ◌==◌, ◌&&◌, min, Bool, true, Option, None, Some, is_some, List, [], length, vec_capacity, option_and_then, option_map}
 use Rattle.std.specs.HashMap.{get, spare}
 use Rattle.ir_types.specs.declared.id.Id.{Id}
 use Rattle.ir_types.specs.declared.id.Place.{Place}

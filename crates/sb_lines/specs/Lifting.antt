@@ -5,7 +5,6 @@ use Rattle.std.specs.Prelude.{◌≡◌, refl, ℕ, suc, cond, Option, None, Som
 use Rattle.ir_types.specs.declared.id.Place.{Place}
 use Rattle.ir_types.specs.declared.inst.Inst.{Inst}
 use Rattle.ir_types.specs.declared.func.Block.{Block}
-use Rattle.ir_types.specs.declared.func.Func.{Func}
 use Rattle.ir_types.specs.declared.module.Item.{Item}
 use Rattle.ir_types.specs.declared.module.Item.TheVariants.{Func as FuncItem}
 use Rattle.vx_view.specs.Answers.{either, lines, doubles}

@@ -2,8 +2,7 @@
 --
 -- What is no node holds nothing. The instructions of a block are walked from its mark, from node to next node, as long as each holds one;
 -- there are no more steps than nodes.
-use Rattle.std.specs.Prelude.{◌≡◌, refl, ℕ, zero, suc, ◌==◌, cond, Option, None, Some, List, [], ◌∷◌, length, slice_get}
-use Rattle.ir_types.specs.declared.id.Id.{Id}
+use Rattle.std.specs.Prelude.{◌≡◌, refl, ℕ, zero, suc, ◌==◌, cond, Option, None, Some, List, [], ◌∷◌, slice_get}
 use Rattle.ir_types.specs.declared.id.Place.{Place}
 use Rattle.ir_types.specs.declared.inst.Inst.{Inst}
 use Rattle.vx_view.specs.Answers.{line}

@@ -1,7 +1,7 @@
 -- Where an instruction comes, and where one stood that was taken out.
 --
 -- An instruction is put before another, or at the end of a block. One that is taken out stood before what came after it, or at the end.
-use Rattle.std.specs.Prelude.{◌≡◌, refl, ℕ, true, false, Option, None, Some, IsSome, List, [], slice_get, option_and_then, ⊤}
+use Rattle.std.specs.Prelude.{◌≡◌, refl, ℕ, true, false, Option, None, Some, IsSome, [], slice_get, option_and_then, ⊤}
 use Rattle.ir_types.specs.declared.id.Id.{Id}
 use Rattle.ir_types.specs.declared.id.Place.{Place}
 use Rattle.ir_types.specs.declared.opd.Opd.{Opd}

@@ -1,5 +1,5 @@
 -- The type that an operand has in a function, by what is kept of parameters and where instructions stand.
-use Rattle.std.specs.Prelude.{◌≡◌, ℕ, ◌==◌, cond, nat_lt, Option, None, Some, length, option_map}
+use Rattle.std.specs.Prelude.{ℕ, ◌==◌, cond, nat_lt, Option, None, Some, length, option_map}
 use Rattle.ir_types.specs.declared.id.Id.{Id}
 use Rattle.ir_types.specs.declared.ty.Ty.{Ty}
 use Rattle.ir_types.specs.declared.ty.Ty.TheVariants.{Ptr}

@@ -2,11 +2,10 @@
 --
 -- Each block has its mark and a ring of nodes, each of which names its neighbours and stands once in it. A node holds an instruction exactly
 -- where it is in the ring of that instruction's block; the node of each id holds its instruction, or nothing.
-use Rattle.std.specs.Prelude.{◌≡◌, refl, ℕ, suc, ◌==◌, ◌<◌, Bool, true, false, cond, Option, None, Some, IsSome, is_some, List, [], ◌∷◌, length, slice_get, option_map, option_and_then, ⊤}
+use Rattle.std.specs.Prelude.{◌≡◌, refl, ℕ, ◌==◌, ◌<◌, Bool, true, false, cond, Some, IsSome, is_some, List, [], ◌∷◌, length, slice_get, ⊤}
 use Rattle.ir_types.specs.declared.id.Id.{Id}
 use Rattle.ir_types.specs.declared.id.Place.{Place}
 use Rattle.ir_types.specs.declared.inst.Inst.{Inst}
-use Rattle.ir_types.specs.declared.func.Func.{Func}
 use Rattle.ir_types.specs.IdTable.{found as item_of}
 use Rattle.vx_view.specs.Answers.{funcs_of}
 use Rattle.sb_lines.specs.declared.nodes.Held.{Held}

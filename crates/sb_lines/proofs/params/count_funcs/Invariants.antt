@@ -1,8 +1,5 @@
-use Rattle.std.proofs.Common.{◌≡◌, ℕ, ◌+◌, ◌==◌, false, length, option_map}
-use Rattle.ir_types.specs.declared.id.Id.{Id}
-use Rattle.ir_types.specs.IdTable.{found}
-use Rattle.vx_view.specs.Answers.{funcs_of, param_in, either}
-use Rattle.sb_lines.specs.Params.{spot_of, of_func, spots_at}
+use Rattle.std.proofs.Common.{◌≡◌, ◌+◌, length}
+use Rattle.vx_view.specs.Answers.{funcs_of}
 use Rattle.sb_lines.proofs.params.count_funcs.Given as goal
 
 abbrev pub invariant-loop-left : goal.invariant-loop-left

@@ -1,5 +1,5 @@
 -- A parameter more.
-use Rattle.std.proofs.Common.{◌≡◌, sym, ap, ◌∙◌, ◌+◌, drop, option_map}
+use Rattle.std.proofs.Common.{sym, ap, ◌∙◌, ◌+◌, drop, option_map}
 use Rattle.ir_types.specs.IdTable.{found}
 use Rattle.vx_view.specs.Answers.{param_in, either}
 use Rattle.sb_lines.specs.Params.{spot_of, of_func}

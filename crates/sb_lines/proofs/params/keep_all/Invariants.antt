@@ -2,7 +2,7 @@ use Rattle.std.proofs.Common.{◌≡◌, ℕ, ◌==◌, false, drop, option_map}
 use Rattle.ir_types.specs.declared.id.Id.{Id}
 use Rattle.ir_types.specs.IdTable.{found}
 use Rattle.vx_view.specs.Answers.{param_in, either}
-use Rattle.sb_lines.specs.Params.{spot_of, of_func, spots_at}
+use Rattle.sb_lines.specs.Params.{spot_of, of_func}
 use Rattle.sb_lines.proofs.params.keep_all.Given as goal
 
 abbrev pub invariant-loop-param : goal.invariant-loop-param

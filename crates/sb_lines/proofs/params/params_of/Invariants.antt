@@ -1,8 +1,8 @@
-use Rattle.std.proofs.Common.{◌≡◌, ℕ, ◌==◌, false, drop, option_map}
+use Rattle.std.proofs.Common.{◌≡◌, ℕ, drop}
 use Rattle.ir_types.specs.declared.id.Id.{Id}
 use Rattle.ir_types.specs.IdTable.{found}
-use Rattle.vx_view.specs.Answers.{param_in, either}
-use Rattle.sb_lines.specs.Params.{spot_of, of_func, spots_at}
+use Rattle.vx_view.specs.Answers.{either}
+use Rattle.sb_lines.specs.Params.{of_func, spots_at}
 use Rattle.sb_lines.proofs.params.params_of.Given as goal
 
 abbrev pub invariant-loop-item : goal.invariant-loop-item

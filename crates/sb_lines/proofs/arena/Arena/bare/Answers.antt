@@ -1,8 +1,7 @@
 -- There is no node.
-use Rattle.std.proofs.Common.{◌≡◌, ap, None, []}
+use Rattle.std.proofs.Common.{ap}
 use Rattle.std.specs.Map.{lookup}
 use Rattle.ir_types.specs.Available.{same_id}
-use Rattle.sb_lines.specs.declared.arena.Arena.{Arena}
 use Rattle.sb_lines.specs.Arena.{same_key, key_of}
 use Rattle.sb_lines.proofs.Opened.{no-rings}
 use Rattle.sb_lines.proofs.arena.Arena.bare.Goals as goal

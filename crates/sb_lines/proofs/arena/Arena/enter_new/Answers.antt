@@ -1,9 +1,8 @@
 -- One more node, and an id that names it.
-use Rattle.std.proofs.Common.{rules, ◌≡◌, refl, ap, ◌∙◌, Some, cond, length, subst}
+use Rattle.std.proofs.Common.{rules, ◌≡◌, refl, ap, ◌∙◌, Some, cond, length}
 use Rattle.ir_types.specs.declared.id.Id.{Id}
 use Rattle.ir_types.specs.Available.{same_id}
 use Rattle.sb_lines.specs.declared.arena.Arena.{Arena}
-use Rattle.sb_lines.specs.declared.nodes.Held.TheVariants.{Gone}
 use Rattle.sb_lines.specs.Nodes.{held}
 use Rattle.sb_lines.specs.Arena.{node}
 use Rattle.sb_lines.specs.Steps.{IsKept}

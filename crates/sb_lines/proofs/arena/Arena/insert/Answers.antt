@@ -1,5 +1,5 @@
 -- The place of an instruction is that of its node, which the new node leaves as it was.
-use Rattle.std.proofs.Common.{◌≡◌, sym, ap, ◌∙◌, Some, IsSome}
+use Rattle.std.proofs.Common.{◌≡◌, sym, ap, ◌∙◌, Some}
 use Rattle.sb_lines.specs.Nodes.{held}
 use Rattle.sb_lines.specs.Arena.{before_in, before_held}
 use Rattle.sb_lines.specs.Steps.{coming}

@@ -1,5 +1,5 @@
 -- What was walked and what is left are the block.
-use Rattle.std.proofs.Common.{rules, ◌≡◌, sym, ap, ◌∙◌, ℕ, List, [], ◌∷◌, ◌++◌, ◌-◌, Option, Some}
+use Rattle.std.proofs.Common.{rules, ◌≡◌, sym, ap, ◌∙◌, ℕ, List, [], ◌∷◌, ◌++◌, ◌-◌, Some}
 use Rattle.std.proofs.lemmas.List.{append_assoc}
 use Rattle.std.specs.Option.{option_copied}
 use Rattle.ir_types.specs.declared.inst.Inst.{Inst}

@@ -1,6 +1,5 @@
 -- What was lifted is the module.
-use Rattle.std.proofs.Common.{rules, ◌≡◌, ap, ◌∙◌, ℕ, List, []}
-use Rattle.ir_types.specs.declared.id.Id.{Id}
+use Rattle.std.proofs.Common.{rules, ◌≡◌, ap, ◌∙◌, List, []}
 use Rattle.ir_types.specs.declared.id.Place.{Place}
 use Rattle.ir_types.specs.declared.module.Item.{Item}
 use Rattle.ir_types.specs.IdTable.{found as item_of}

@@ -1,11 +1,9 @@
-use Rattle.std.proofs.Common.{◌≡◌, ◌++◌, cond, drop, IsSome}
+use Rattle.std.proofs.Common.{◌≡◌, ◌++◌, cond, drop}
 use Rattle.ir_types.specs.declared.id.Place.{Place}
-use Rattle.vx_view.specs.Answers.{either}
 use Rattle.vx_view.specs.Views.{same_place}
-use Rattle.sb_lines.specs.Arena.{mark, contents}
+use Rattle.sb_lines.specs.Arena.{contents}
 use Rattle.sb_lines.specs.Whole.{IsRings}
-use Rattle.sb_lines.specs.Steps.{SameModule, SameFrame}
-use Rattle.sb_lines.specs.Lifting.{shown, blocks_at, items_at}
+use Rattle.sb_lines.specs.Steps.{SameFrame}
 use Rattle.sb_lines.proofs.arena.Arena.lift_insts.Given as goal
 
 abbrev pub invariant-loop-inst : goal.invariant-loop-inst

@@ -1,5 +1,5 @@
 -- One write of an instruction.
-use Rattle.std.proofs.Common.{◌≡◌, sym, ◌∙◌}
+use Rattle.std.proofs.Common.{sym, ◌∙◌}
 use Rattle.sb_lines.proofs.Writes.{put-law}
 use Rattle.sb_lines.proofs.arena.Arena.put.Goals as goal
 

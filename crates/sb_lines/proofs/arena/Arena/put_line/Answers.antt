@@ -1,6 +1,6 @@
 -- A node gets its instruction, and is linked in.
-use Rattle.std.proofs.Common.{◌≡◌, sym, ◌∙◌, ◌<◌, length, subst}
-use Rattle.sb_lines.proofs.Writes.{IsLine, line-law, spot-bound}
+use Rattle.std.proofs.Common.{sym, ◌∙◌}
+use Rattle.sb_lines.proofs.Writes.{line-law, spot-bound}
 use Rattle.sb_lines.proofs.arena.Arena.put_line.Goals as goal
 
 pub link-requires-clause-prev : goal.link-requires-clause-prev

@@ -1,7 +1,7 @@
 -- A node is taken out of its ring, and holds nothing then.
-use Rattle.std.proofs.Common.{◌≡◌, sym, ap, ◌∙◌}
+use Rattle.std.proofs.Common.{sym, ap, ◌∙◌}
 use Rattle.sb_lines.specs.Arena.{before_held}
-use Rattle.sb_lines.proofs.Writes.{IsOut, out-law, neighbours, is-none}
+use Rattle.sb_lines.proofs.Writes.{out-law, neighbours, is-none}
 use Rattle.sb_lines.proofs.arena.Arena.remove.Goals as goal
 
 pub unreachable-requires-in_default-before_at : goal.unreachable-requires-in_default-before_at

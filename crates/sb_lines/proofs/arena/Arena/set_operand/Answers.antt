@@ -1,7 +1,6 @@
 -- An instruction goes out of its node, and comes back with another operand.
-use Rattle.std.proofs.Common.{◌≡◌, sym, ap, ◌∙◌}
+use Rattle.std.proofs.Common.{sym, ◌∙◌}
 use Rattle.sb_lines.specs.declared.nodes.Held.TheVariants.{Line, Gone}
-use Rattle.sb_lines.specs.Steps.{told_operand}
 use Rattle.sb_lines.proofs.Writes.{Wrote, with_nodes, two-writes, set-law, set-back, set-stands}
 use Rattle.sb_lines.proofs.arena.Arena.set_operand.Goals as goal
 

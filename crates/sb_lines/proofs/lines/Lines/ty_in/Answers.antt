@@ -3,7 +3,7 @@ use Rattle.std.proofs.Common.{◌∙◌, ap, slice_get}
 use Rattle.vx_view.specs.Answers.{funcs_of}
 use Rattle.vx_view.specs.Changes.{ty_in}
 use Rattle.sb_lines.specs.declared.arena.Arena.{Arena}
-use Rattle.sb_lines.specs.Arena.{contents, seen}
+use Rattle.sb_lines.specs.Arena.{seen}
 use Rattle.sb_lines.proofs.Typing.{ty-is}
 use Rattle.sb_lines.proofs.lines.Lines.ty_in.Goals as goal
 
