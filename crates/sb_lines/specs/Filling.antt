@@ -2,7 +2,7 @@
 --
 -- A filling tells what stands at a place, from what stood there. All else of a module stays: items and headers, parameters, the names of
 -- blocks. Functions of the profile and their blocks are counted from 0.
-use Rattle.std.specs.Prelude.{◌≡◌, refl, ℕ, suc, Bool, false, cond, nat_lt, Option, None, Some, List, [], ◌∷◌, ◌++◌, length, slice_get}
+use Rattle.std.specs.Prelude.{◌≡◌, refl, ℕ, suc, Bool, true, false, cond, nat_lt, Option, None, Some, List, [], ◌∷◌, ◌++◌, length, slice_get}
 use Rattle.ir_types.specs.declared.id.Place.{Place}
 use Rattle.ir_types.specs.declared.inst.Inst.{Inst}
 use Rattle.ir_types.specs.declared.func.Block.{Block}
@@ -68,18 +68,10 @@ appended place new m = filled (at_end place new) m
 
 -- ---- worked examples: a return is put after that of the only block
 
-abbrev insts_of : List Func → List (List (List Inst))
-insts_of [] = []
-insts_of (f ∷ fs) = blocks_of f.blocks ∷ insts_of fs
-  where
-    blocks_of : List Block → List (List Inst)
-    blocks_of [] = []
-    blocks_of (b ∷ bs) = b.insts ∷ blocks_of bs
-
 one_more : filled (λ place insts. line 3 [] ∷ insts) (filled (λ place insts. []) doubles) ≡ filled (λ place insts. line 3 [] ∷ []) doubles
 one_more = refl
 
-the_only_block : has_block doubles (place_of 0 0) ≡ Bool.true
+the_only_block : has_block doubles (place_of 0 0) ≡ true
 the_only_block = refl
 
 no_second_block : has_block doubles (place_of 0 1) ≡ false

@@ -16,6 +16,8 @@ mod lowering;
 mod nodes;
 mod params;
 mod spot;
+#[cfg(test)]
+mod tests;
 mod types;
 
 pub use laws::moves_before_another;
