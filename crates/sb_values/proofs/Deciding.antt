@@ -7,7 +7,6 @@ use Rattle.std.proofs.lemmas.List.Elements.{All-nil, All-cons}
 use Rattle.ir_types.specs.declared.id.Id.{Id}
 use Rattle.ir_types.specs.declared.id.Use.{Use}
 use Rattle.ir_types.specs.declared.ty.Ty.{Ty}
-use Rattle.ir_types.specs.declared.op.Op.{Op}
 use Rattle.ir_types.specs.declared.opd.Opd.{Opd}
 use Rattle.ir_types.specs.declared.opd.Opd.TheVariants.{Val, Lit, Sym}
 use Rattle.ir_types.specs.declared.func.Param.{Param}
@@ -21,7 +20,7 @@ use Rattle.ir_types.proofs.SameTypes.{same_is, same_itself}
 use Rattle.vx_view.specs.declared.change.Change.{Change}
 use Rattle.vx_view.specs.declared.change.Change.TheVariants.{Insert, Remove, Move, Replace, SetOperand}
 use Rattle.vx_view.specs.Answers.{funcs_of, param_in, param_of, either, found, Standing, uses_of}
-use Rattle.vx_view.specs.Changes.{IsNeither, IsEither, IsThere, Stands, IsNoPhi, SameType, ty_in, Fits}
+use Rattle.vx_view.specs.Changes.{IsNeither, IsEither, IsThere, Stands, SameType, Fits}
 use Rattle.vx_view.specs.Uses.{times, IsExact}
 use Rattle.vx_view.specs.UsesAfter.{Contents}
 use Rattle.vx_view.specs.Views.{same_place}
@@ -30,7 +29,6 @@ use Rattle.sb_uses.specs.Places.{is_some_use}
 use Rattle.sb_uses.proofs.Segments.{use-itself}
 use Rattle.sb_lines.specs.Arena.{Told, told_of}
 use Rattle.sb_lines.specs.Params.{spot_of, spot_from}
-use Rattle.sb_lines.specs.declared.params.ParamSpot.{ParamSpot}
 use Rattle.sb_values.specs.Fitting.{told, stands, is_known, is_there, all_there, is_place, is_movable, is_removable, same_types, same_type, holds, fits}
 
 -- ---- truth
@@ -82,10 +80,10 @@ told_known f (Some a) = refl
 
 spot_known : (x : Id) (k : ℕ) (fs : List Func) → is_some (spot_from x k fs) ≡ is_some (param_of x fs)
 spot_known x k [] = refl
-spot_known x k (f ∷ fs) = by_param (param_in x f.params) where
-  by_param : (o : Option Param) → is_some (either (option_map (spot_of k) o) (spot_from x (suc k) fs)) ≡ is_some (either o (param_of x fs))
-  by_param None = spot_known x (suc k) fs
-  by_param (Some p) = refl
+spot_known x k (f ∷ fs) = by_param (param_in x f.params) (spot_known x (suc k) fs) where
+  by_param : (o : Option Param) → is_some (spot_from x (suc k) fs) ≡ is_some (param_of x fs) → is_some (either (option_map (spot_of k) o) (spot_from x (suc k) fs)) ≡ is_some (either o (param_of x fs))
+  by_param None more = more
+  by_param (Some p) more = refl
 
 known_is : (m : Module) (x : Id) → is_known m x ≡ (is_some (param_of x (funcs_of m.items)) || is_some (found m x))
 known_is m x = ap (λ b. b || is_some (told m x)) (spot_known x 0 (funcs_of m.items)) ∙ ap (λ b. is_some (param_of x (funcs_of m.items)) || b) (told_known told_of (found m x))
@@ -188,9 +186,17 @@ module _ (s : Contents) (exact : IsExact s.own s.lists) where
       let here = and_both (is_place at.0.inst.op) (stands (told s.own y) (λ u. same_place u.place at.0.place && is_movable u.inst.op)) at.2 in
       let other = stands_so s.own y (λ u. same_place u.place at.0.place && is_movable u.inst.op) here.1 in
       let rest = and_both (same_place other.0.place at.0.place) (is_movable other.0.inst.op) other.2 in
-      let ops = and_both (not (is_phi other.0.inst.op)) (not (is_terminator other.0.inst.op)) rest.1 in
-      ((at.0, at.1, (not_so (is_phi at.0.inst.op) here.0,
-      (other.0, other.1, (place_is other.0.place at.0.place rest.0, not_so (is_phi other.0.inst.op) ops.0, not_so (is_terminator other.0.inst.op) ops.1)))), not_so (same_id y x) all.1)
+      let ops = and_both (not (is_phi other.0.inst.op)) (not (is_terminator other.0.inst.op)) rest.1 in (
+        (
+          at.0,
+          at.1,
+          (
+            not_so (is_phi at.0.inst.op) here.0,
+            (other.0, other.1, (place_is other.0.place at.0.place rest.0, not_so (is_phi other.0.inst.op) ops.0, not_so (is_terminator other.0.inst.op) ops.1)),
+          ),
+        ),
+        not_so (same_id y x) all.1,
+      )
   fits_so (Replace new) e =
       let all = and_both (stands (told s.own new.id) (λ t. same_ty t.inst.ty new.ty)) (all_there s.own new.opds) e in
       let at = stands_so s.own new.id (λ t. same_ty t.inst.ty new.ty) all.0 in

@@ -11,7 +11,7 @@ use Rattle.vx_view.specs.declared.change.Change.TheVariants.{Insert, Remove, Rep
 use Rattle.vx_view.specs.Answers.{found, value, line, doubles}
 use Rattle.vx_view.specs.Changes.{applied}
 use Rattle.vx_view.specs.Uses.{lifted}
-use Rattle.sb_uses.specs.Stock.{Stock, HasSlots, withdrawn, restored, set_back, CanRestore, CanSetBack, added}
+use Rattle.sb_uses.specs.Stock.{Stock, HasSlots, withdrawn, restored, set_back, CanRestore, CanSetBack}
 use Rattle.sb_uses.specs.StockAfter.{opds_of, stock_after}
 use Rattle.sb_lines.specs.declared.arena.Arena.{Arena}
 use Rattle.sb_lines.specs.Arena.{knows}

@@ -5,10 +5,11 @@
 //! and use lists back as they were, without memory. What is asked is answered in constant time. Want of memory is the one failure but
 //! for a change that does not fit, and either changes nothing.
 //!
-//! `Parts` makes changes in both parts; `fitting` tests them. Definitions stand in `specs/`: `Sandboxes` has what contracts see, `Undoing` what
+//! `Parts` makes changes in both parts; `fitting` tests them, and `answering` has what is asked. Definitions stand in `specs/`: `Sandboxes` has what contracts see, `Undoing` what
 //! takes a change back.
 #![tactic(auto)]
 
+mod answering;
 mod fitting;
 mod found;
 mod parts;

@@ -5,7 +5,7 @@
 
 ghost use Rattle.std.specs.Prelude.{◌≡◌, ◌≤◌, IsOk, OnOk};
 ghost use Rattle.std.specs.Option.{option_copied};
-ghost use Rattle.vx_view.specs.declared.change.Change.TheVariants as to;
+ghost use Rattle.vx_view.specs.declared.change.Change.TheVariants as of;
 ghost use Rattle.sb_lines.specs.Arena.{seen};
 ghost use Rattle.sb_lines.specs.Spots as spots;
 ghost use Rattle.sb_values.specs.Sandboxes.{state, spare};
@@ -90,7 +90,7 @@ impl Parts {
 
     fn insert(&mut self, before: Id, inst: Inst) -> Undo
         requires { CanInsert before inst self.old }
-        ensures { IsMade (to.Insert before inst) result self.old self.new }
+        ensures { IsMade (of.Insert before inst) result self.old self.new }
     {
         let id = inst.id;
         self.slots.add(id, inst.opds.as_slice());
@@ -100,7 +100,7 @@ impl Parts {
 
     fn remove(&mut self, id: Id) -> Undo
         requires { IsHeld id self.old }
-        ensures { IsMade (to.Remove id) result self.old self.new }
+        ensures { IsMade (of.Remove id) result self.old self.new }
     {
         self.slots.take(id, opds_at(&self.lines, id));
         let spot = self.lines.remove(id);
@@ -109,7 +109,7 @@ impl Parts {
 
     fn shift(&mut self, id: Id, before: Id) -> Undo
         requires { CanShift id before self.old }
-        ensures { IsMade (to.Move id before) result self.old self.new }
+        ensures { IsMade (of.Move id before) result self.old self.new }
     {
         let before = self.lines.shift(id, Before::Line(before));
         Undo::Moved { id, before }
@@ -117,7 +117,7 @@ impl Parts {
 
     fn replace(&mut self, inst: Inst) -> Undo
         requires { CanReplace inst self.old }
-        ensures { IsMade (to.Replace inst) result self.old self.new }
+        ensures { IsMade (of.Replace inst) result self.old self.new }
     {
         self.slots.take(inst.id, opds_at(&self.lines, inst.id));
         self.slots.add(inst.id, inst.opds.as_slice());
@@ -127,7 +127,7 @@ impl Parts {
 
     fn set_operand(&mut self, id: Id, slot: u32, to: Opd) -> Undo
         requires { CanSet id slot to self.old }
-        ensures { IsMade (to.SetOperand id slot to) result self.old self.new }
+        ensures { IsMade (of.SetOperand id slot to) result self.old self.new }
     {
         let Some(old) = operand(&self.lines, id, slot) else {
             unreachable!();

@@ -49,8 +49,8 @@ fn cost_of(change: &Change) -> u64
     ensures { result ≡ cost change.now }
 {
     match change {
-        Change::Insert { inst, .. } | Change::Replace { inst } =>
-            inst.opds.as_slice().len() as u64 + 1,
+        Change::Insert { inst, .. } | Change::Replace { inst } => inst.opds.as_slice().len() as u64
+            + 1,
         Change::SetOperand { .. } => 2,
         Change::Remove { .. } | Change::Move { .. } => 1,
     }
@@ -72,7 +72,7 @@ impl Sandbox {
 
     /// The module as it now is.
     pub fn lower(&self) -> Result<Module, OutOfMemory>
-        ensures { IfOk result (λ module. module ≡ (contents self.now).own) }
+        ensures { IfOk result (λ m. m ≡ (contents self.now).own) }
     {
         self.parts.lines.lower()
     }
@@ -145,50 +145,13 @@ impl Sandbox {
     pub fn found(&self, id: Id) -> Found<'_>
         ensures { as_answer result ≡ answer (contents self.now).own (ask.Inst id) }
     {
-        if let Some(param) = self.parts.lines.param(id) {
-            return Found::Param {
-                noalias: param.noalias,
-                ty: param.ty,
-            };
-        }
-        match self.parts.lines.found(id) {
-            Some(found) => Found::Inst {
-                place: found.place,
-                inst: found.inst,
-            },
-            None => Found::Nothing,
-        }
+        self.parts.found(id)
     }
 
     /// The instruction that a question for a neighbour or a first instruction asks for; none for other questions.
     pub fn at(&self, question: &Question) -> Option<Id>
         ensures { result ≡ id_in (answer (contents self.now).own question.now) }
     {
-        match question {
-            Question::Next(id) => self.next(*id),
-            Question::Prev(id) => self.prev(*id),
-            Question::First(place) => self.parts.lines.first(*place),
-            Question::Inst(_) | Question::Users(_) => None,
-        }
-    }
-
-    /// The instruction after that of an id.
-    fn next(&self, id: Id) -> Option<Id>
-        ensures { result ≡ id_in (answer (contents self.now).own (ask.Next id)) }
-    {
-        if self.parts.lines.param(id).is_some() {
-            return None;
-        }
-        self.parts.lines.next(id)
-    }
-
-    /// The instruction before that of an id.
-    fn prev(&self, id: Id) -> Option<Id>
-        ensures { result ≡ id_in (answer (contents self.now).own (ask.Prev id)) }
-    {
-        if self.parts.lines.param(id).is_some() {
-            return None;
-        }
-        self.parts.lines.prev(id)
+        self.parts.at(question)
     }
 }
