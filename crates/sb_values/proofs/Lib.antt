@@ -1,0 +1,4 @@
+-- Lemmas on sandboxes.
+pub mod Deciding
+pub mod Making
+pub mod Told
