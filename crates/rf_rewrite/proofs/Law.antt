@@ -1,0 +1,482 @@
+-- The changes of a region lead to the module in which it is rewritten.
+use Rattle.std.proofs.Common.{◌≡◌, refl, sym, ap, ◌∙◌, subst, ℕ, zero, suc, ◌+◌, ◌-◌, ◌<◌, ◌≤◌, ◌⊎◌, inl, inr, Bool, true, false, not, ◌&&◌, ◌||◌, Option, None, Some, List, [], ◌∷◌, ◌++◌, map, cond, nat_eq, option_map, drop, arith, length, append_assoc}
+use Rattle.std.specs.Bool.{⊤}
+use Rattle.std.specs.Prelude.{is_none}
+use Rattle.std.specs.List.{list_any, list_all}
+use Rattle.std.proofs.lemmas.Bool.Decides.{nat_tests}
+use Rattle.ir_types.specs.declared.id.Id.{Id}
+use Rattle.ir_types.specs.declared.opd.Opd.{Opd}
+use Rattle.ir_types.specs.declared.opd.Opd.TheVariants.{Val}
+use Rattle.ir_types.specs.declared.inst.Inst.{Inst}
+use Rattle.ir_types.specs.declared.module.Module.{Module}
+use Rattle.ir_types.specs.Walks.{IsReached}
+use Rattle.ir_types.specs.Available.{same_id, graph_of}
+use Rattle.ir_types.specs.Formed.{is_phi, is_terminator, IsFormed, IsFresh, IsLawful, ids_of as module_ids}
+use Rattle.ir_types.proofs.Formed.{Every, every_of_all}
+use Rattle.ir_types.proofs.Among.{same_is, same_itself, swapped}
+use Rattle.vx_view.specs.declared.change.Change.{Change}
+use Rattle.vx_view.specs.Answers.{funcs_of, find, found, after as next_after, Standing, uses_of, id_of}
+use Rattle.vx_view.specs.Addresses.{block_of}
+use Rattle.vx_view.specs.Changes.{applied, all_applied, Fits, AllFit}
+use Rattle.sb_uses.specs.Totals.{id_times}
+use Rattle.vx_serial.specs.declared.node.How.{How}
+use Rattle.vx_serial.specs.declared.node.How.TheVariants.{Widen, Reuse, Ident, Pack}
+use Rattle.vx_serial.specs.declared.node.Node.{Node}
+use Rattle.vx_serial.specs.Window.{is_member, up_to, from_member, window, order_in, order, joined}
+use Rattle.vx_serial.specs.Bundles.{AreOnce, ids_of, AreBundles}
+use Rattle.vx_serial.specs.Near.{last_of, looked_at}
+use Rattle.vx_serial.specs.Legal.{is_among, is_widened, insts_of, bundles_of}
+use Rattle.vx_serial.specs.Tree.{values_of, last_in, tree_in, tree_of}
+use Rattle.vx_serial.specs.Rewriting.{Made, start, created, is_created, is_id_in, without, joined_ids, before_member, after_inst, written, only_created, uses_value, going, Plan, new_insts, plan_of, is_wanted, rewritten_window, rewritten_by, rewritten_in, rewritten, bundle_of}
+use Rattle.vx_serial.specs.Changing.{steps, removals, not_among, then_removals, changes_by, before_next, changes_in, changes_of, changes}
+use Rattle.vx_serial.proofs.Places.{member_joined}
+use Rattle.rf_order.specs.Rows.{Reordered}
+use Rattle.rf_order.proofs.Windows.{orders_reordered}
+use Rattle.rf_rewrite.specs.Rewritten.{with_insts, rewritten_module, is_root_widened, Leads, ChangesLead}
+use Rattle.rf_rewrite.proofs.Contexts.{Context, plug, one_of, times, times_append, around, ahead, ids_plug, ids_sum, place_of, some_find, found_plug}
+use Rattle.rf_rewrite.proofs.Parts.{with_insts_plug, defines_found}
+use Rattle.rf_rewrite.proofs.Window.{Known, Fine, left, state, number, numbers, window_is, find_append, find_front, find_times, find_id}
+use Rattle.rf_rewrite.proofs.Gone.{uses_id, Removable, Going, Goes, all_go}
+use Rattle.rf_rewrite.proofs.Taking.{Takes, takes_fine, takes_without}
+use Rattle.rf_rewrite.proofs.Making.{every_map, Ready, Kind, Adds, Writes, Member, IsGroup, written_is, written_wants}
+use Rattle.rf_rewrite.proofs.Alike.{Alike, written_alike}
+use Rattle.rf_rewrite.proofs.Groups.{block_cut, has_of, has_member, member_from, any_times, once_times, reordered_times, HasFirst, order_groups, joined_is}
+use Rattle.rf_rewrite.proofs.Trees.{any_append, LaneOk, LanesOk, NodeOk, TreeOk, tree_ok, FirstSome, firsts, alone, IsLane, lanes_are, nodes_known}
+use Rattle.rf_rewrite.proofs.Blocks.{Here, here_of, func_in, times_few, block_formed, operands_known, fresh_times, ends_front, ends_after, phis_after}
+use Rattle.rf_rewrite.proofs.Earlier.{stands_earlier}
+use Rattle.rf_rewrite.proofs.Scan.{users, Leaves, going_leaves, going_once, unwanted}
+use Rattle.rf_rewrite.proofs.Left.{without_append, gone_times, kept_times, fewer_times, left_is}
+use Rattle.rf_rewrite.proofs.Setting.{MayGo, Setting, leaves, after, ds}
+use Rattle.rf_rewrite.proofs.Setting.{going as going_facts}
+use Rattle.rf_rewrite.proofs.Cutting.{append_none, find_some, every_find, every_without, every_left, every_right, drop_times, among_times, up_to_has, next_is, FoundParts, found_parts, every_joined, last_among, unused_new, old_region}
+use Rattle.rf_rewrite.proofs.Stores as of_stores
+use Rattle.rf_rewrite.proofs.Roots.{Root, tree_root}
+
+true_false : true ≡ false → ⊥
+true_false e = cc
+
+some_is : {A : Type 0} {p q : A} → Some p ≡ Some q → p ≡ q
+some_is e = cc
+
+-- ---- changes one after another
+
+applied_append : (cs es : List Change) (m : Module) → all_applied (cs ++ es) m ≡ all_applied es (all_applied cs m)
+applied_append [] es m = refl
+applied_append (c ∷ cs) es m = applied_append cs es (applied c m)
+
+fit_append : (cs es : List Change) (m : Module) → AllFit cs m → AllFit es (all_applied cs m) → AllFit (cs ++ es) m
+fit_append [] es m f g = g
+fit_append (c ∷ cs) es m f g = (f.0, fit_append cs es (applied c m) f.1 g)
+
+-- ---- the law, on a block that is cut
+
+module _ (c : Context) (front ws_old : List Inst) (x : Inst) (zs : List Inst) (region : ℕ) (s : Id) (stores : List Id) where
+  abbrev block : List Inst
+  block = front ++ (ws_old ++ x ∷ zs)
+
+  abbrev whole : Module
+  whole = plug c block
+
+  abbrev base : Id → ℕ
+  base y = id_times y (module_ids whole)
+
+  abbrev last : Id
+  last = last_in (s ∷ stores) s block
+
+  abbrev tree : List Node
+  tree = tree_in whole block last (s ∷ stores)
+
+  abbrev bundles : List (List Id)
+  bundles = bundles_of block tree
+
+  abbrev lanes : List Id
+  lanes = joined bundles
+
+  module _ (formed : IsFormed whole) (fresh : IsFresh whole region) (reached : IsReached (graph_of (func_in c block)) (length c.blocks_before))
+      (store : Inst) (finds : find s block ≡ Some store) (each : Every (λ y. 1 ≤ times y block) (s ∷ stores)) (root : is_root_widened tree ≡ true)
+      (cut_front : before_member bundles block ≡ front) (cut_window : window block last bundles ≡ ws_old) (cut_after : after_inst last block ≡ x ∷ zs) where
+    few : (y : Id) → around c y + times y block ≤ 1
+    few = of_stores.few c block s stores formed each root
+
+    few_in : (y : Id) → times y block ≤ 1
+    few_in = of_stores.few_in c block s stores formed each root
+
+    in_base : (y : Id) → 1 ≤ times y block → 1 ≤ base y
+    in_base = of_stores.in_base c block s stores formed each root
+
+    ok : TreeOk (length c.globals) base whole block last (λ y. refl) (operands_known c block formed) tree
+    ok = of_stores.ok c block s stores formed each root
+
+    lane_is : (y : Id) → is_id_in lanes y ≡ true → IsLane (length c.globals) base whole block last (λ y. refl) (operands_known c block formed) y
+    lane_is = of_stores.lane_is c block s stores formed each root
+
+    store_lane : (y : Id) → is_id_in (s ∷ stores) y ≡ true → is_id_in lanes y ≡ true
+    store_lane = of_stores.store_lane c block s stores formed each root
+
+    first_in : is_id_in (s ∷ stores) s ≡ true
+    first_in = of_stores.first_in c block s stores formed each root
+
+    -- a lane stands in the window
+    lane_window : (y : Id) → is_id_in lanes y ≡ true → 1 ≤ times y ws_old
+    lane_window y h =
+        let l = lane_is y h in
+        let id : same_id l.inst.id y ≡ true = find_id y block l.inst l.stands in
+        let near : list_any (λ (j : Inst). same_id j.id y) (looked_at block last) ≡ true =
+        ap (λ v. list_any (λ (j : Inst). same_id j.id v) (looked_at block last)) (sym (same_is l.inst.id y id)) ∙ l.near in
+        let some = among_times y (looked_at block last) near in
+        let less = drop_times y (length (up_to last block) - 256) (up_to last block) in
+        let same = member_from bundles y (up_to last block) (member_joined bundles y ∙ h) in
+        let at = ap (times y) cut_window in
+        omega (arith, some, less, same, at)
+
+    window_block : (y : Id) (i : Inst) → find y ws_old ≡ Some i → find y block ≡ Some i
+    window_block y i e =
+        let some = find_times y ws_old i e in
+        let le = few_in y in
+        let sum = times_append y front (ws_old ++ x ∷ zs) in
+        let then = times_append y ws_old (x ∷ zs) in
+        find_append y front (ws_old ++ x ∷ zs) (omega (arith, some, le, sum, then)) ∙ find_front y ws_old (x ∷ zs) i e
+
+    old : (y : Id) → 1 ≤ times y block → nat_eq y.region (suc region) ≡ false
+    old y some =
+        let le = old_region region y (module_ids whole) (every_of_all (λ (id : Id). id.region ≤ region) (module_ids whole) fresh) (in_base y some) in
+        grind (arith, nat_tests)
+
+    -- ---- phis and terminators
+
+    no_ends : Every (λ (i : Inst). is_terminator i.op ≡ false) (front ++ ws_old)
+    no_ends = ends_front (front ++ ws_old) zs x (subst Rattle.ir_types.specs.Formed.EndsOnce (sym (append_assoc front ws_old (x ∷ zs))) (block_formed c block formed).ends)
+
+    -- a window begins with a member
+    window_head : (l : List Inst) → from_member bundles l ≡ ws_old → (ws_old ≡ []) ⊎ ((j : Inst) × (more : List Inst) × (ws_old ≡ j ∷ more) × (is_member bundles j.id ≡ true))
+    window_head [] e = inl (sym e)
+    window_head (i ∷ l) e = by_test (is_member bundles i.id) refl e (window_head l)
+      where
+        by_test : (b : Bool) → is_member bundles i.id ≡ b → cond b (i ∷ l) (from_member bundles l) ≡ ws_old →
+            (from_member bundles l ≡ ws_old → (ws_old ≡ []) ⊎ ((j : Inst) × (more : List Inst) × (ws_old ≡ j ∷ more) × (is_member bundles j.id ≡ true))) →
+            (ws_old ≡ []) ⊎ ((j : Inst) × (more : List Inst) × (ws_old ≡ j ∷ more) × (is_member bundles j.id ≡ true))
+        by_test true m r more = inr (i, l, sym r, m)
+        by_test false m r more = more r
+
+    never_empty : ws_old ≡ [] → ⊥
+    never_empty e = let some = lane_window s (store_lane s first_in) in let none = ap (times s) e in omega (arith, some, none)
+
+    head : (j : Inst) × (more : List Inst) × (ws_old ≡ j ∷ more) × (is_member bundles j.id ≡ true)
+    head = by_case (window_head (up_to last block) cut_window)
+      where
+        by_case : (ws_old ≡ []) ⊎ ((j : Inst) × (more : List Inst) × (ws_old ≡ j ∷ more) × (is_member bundles j.id ≡ true)) → (j : Inst) × (more : List Inst) × (ws_old ≡ j ∷ more) × (is_member bundles j.id ≡ true)
+        by_case (inl e) = absurd (never_empty e)
+        by_case (inr h) = h
+
+    head_found : find head.0.id block ≡ Some head.0
+    head_found = window_block head.0.id head.0 (ap (find head.0.id) head.2 ∙ ap (λ b. cond b (Some head.0) (find head.0.id head.1)) (same_itself head.0.id))
+
+    head_plain : is_phi head.0.op ≡ false
+    head_plain =
+        let l = lane_is head.0.id (sym (member_joined bundles head.0.id) ∙ head.3) in
+        ap (λ (i : Inst). is_phi i.op) (some_is (sym head_found ∙ l.stands)) ∙ l.may.0
+
+    no_phis : Every (λ (i : Inst). is_phi i.op ≡ false) (head.1 ++ x ∷ zs)
+    no_phis = phis_after true front head.0 (head.1 ++ x ∷ zs) (subst (λ w. Rattle.ir_types.specs.Formed.PhisFirst true (front ++ (w ++ x ∷ zs))) head.2 (block_formed c block formed).phis) head_plain
+
+    plain_x : is_phi x.op ≡ false
+    plain_x = (every_right (λ (i : Inst). is_phi i.op ≡ false) head.1 (x ∷ zs) no_phis).0
+
+    window_plain : Every (λ (i : Inst). is_phi i.op ≡ false) ws_old
+    window_plain = subst (Every (λ (i : Inst). is_phi i.op ≡ false)) (sym head.2) (head_plain, every_left (λ (i : Inst). is_phi i.op ≡ false) head.1 (x ∷ zs) no_phis)
+
+    members : (y : Id) (i : Inst) → find y ws_old ≡ Some i → Member (length c.globals) region lanes ws_old base i
+    members y i e =
+        let id : i.id ≡ y = same_is i.id y (find_id y ws_old i e) in
+        let there = find_times y block i (window_block y i e) in
+        record {
+          finds = ap (λ v. find v ws_old) id ∙ e;
+          read = ap (λ (v : Id). nat_eq v.region (suc region)) id ∙ old y there;
+          moves = (every_find (λ (j : Inst). is_phi j.op ≡ false) y ws_old i window_plain e, every_find (λ (j : Inst). is_terminator j.op ≡ false) y ws_old i (every_right (λ (j : Inst). is_terminator j.op ≡ false) front ws_old no_ends) e);
+          known = operands_known c block formed y i (window_block y i e);
+        }
+
+    -- ---- the order of the window
+
+    window_few : (y : Id) → times y ws_old ≤ 1
+    window_few y = let le = few_in y in let sum = times_append y front (ws_old ++ x ∷ zs) in let then = times_append y ws_old (x ∷ zs) in omega (arith, le, sum, then)
+
+    are_bundles : AreBundles ws_old bundles
+    are_bundles = record { members = λ y h. any_times y ws_old (lane_window y h); once = ok.once }
+
+    ordered : (groups : List (List Inst)) × (order whole block last bundles ≡ Some groups)
+    ordered = by_case ok.ordered (order whole block last bundles) refl
+      where
+        by_case : (bundles ≡ []) ⊎ (is_none (order whole block last bundles) ≡ false) → (o : Option (List (List Inst))) → order whole block last bundles ≡ o → (groups : List (List Inst)) × (order whole block last bundles ≡ Some groups)
+        by_case p (Some groups) e = (groups, e)
+        by_case (inl n) None e = absurd (true_false (sym (store_lane s first_in) ∙ ap (λ bs. is_id_in (joined bs) s) n))
+        by_case (inr n) None e = absurd (true_false (sym (ap is_none e) ∙ n))
+
+    -- ---- what is written
+
+    abbrev groups : List (List Inst)
+    groups = ordered.0
+
+    order_is : order_in whole block ws_old bundles ≡ Some groups
+    order_is = ap (λ w. order_in whole block w bundles) (sym cut_window) ∙ ordered.1
+
+    reorder : (y : Id) → times y (joined groups) ≡ times y ws_old
+    reorder y = reordered_times (Rattle.vx_view.specs.Conflicts.depends whole block) ws_old (joined groups) (orders_reordered whole block ws_old bundles (once_times ws_old window_few) are_bundles groups order_is) y
+
+    standing : Every (Every (λ y. (i : Inst) × (find y ws_old ≡ Some i) × (is_id_in lanes y ≡ true))) bundles
+    standing = every_joined (λ y. (i : Inst) × (find y ws_old ≡ Some i) × (is_id_in lanes y ≡ true)) bundles (λ y h. let f = find_some y ws_old (lane_window y h) in (f.0, f.1, h))
+
+    first_of : (xs : List Id) → FirstSome (length c.globals) base whole block last (λ y. refl) (operands_known c block formed) 0 tree xs → HasFirst (length c.globals) region bundles ws_old base tree members 0 tree xs
+    first_of [] h = tt
+    first_of (y ∷ xs) h = h
+
+    firsts_are : Every (HasFirst (length c.globals) region bundles ws_old base tree members 0 tree) bundles
+    firsts_are = every_map (FirstSome (length c.globals) base whole block last (λ y. refl) (operands_known c block formed) 0 tree) (HasFirst (length c.globals) region bundles ws_old base tree members 0 tree) first_of bundles
+        (firsts (length c.globals) base whole block last (λ y. refl) (operands_known c block formed) 0 tree ok.nodes)
+
+    groups_ok : Every (IsGroup (length c.globals) region lanes ws_old base tree) groups
+    groups_ok = order_groups (length c.globals) region bundles ws_old base tree members
+        (λ y h. alone (length c.globals) base whole block last (λ z. refl) (operands_known c block formed) y 0 tree ok.nodes h)
+        window_few whole block groups standing firsts_are order_is
+
+    abbrev new : List Inst
+    new = new_insts whole region tree groups
+
+    abbrev gone : List Id
+    gone = going (length block) whole lanes new block
+
+    abbrev wanted : Id → Bool
+    wanted = is_wanted whole lanes gone new
+
+    abbrev rewritten_list : List Inst
+    rewritten_list = (written whole wanted region tree groups start).insts
+
+    writes : Writes (length c.globals) region lanes ws_old base start (written whole wanted region tree groups start) (joined groups)
+    writes = written_is (length c.globals) region lanes ws_old base whole wanted tree
+        (nodes_known (length c.globals) base whole block last (λ y. refl) (operands_known c block formed) tree ok.nodes) groups groups_ok start tt
+
+    leaves_is : (y : Id) → is_id_in gone y ≡ true → Leaves whole lanes new block gone y
+    leaves_is y h = going_leaves whole lanes new block few_in (length block) y h
+
+    gone_block : (y : Id) → is_id_in gone y ≡ true → 1 ≤ times y block
+    gone_block y h = let l = leaves_is y h in find_times y block l.inst l.stands
+
+    ready : Ready (length c.globals) region lanes ws_old base base 0
+    ready = record {
+      were = λ y h. h;
+      are = λ k less. absurd (omega (arith, less));
+      free = λ k le. fresh_times region k (module_ids whole) (every_of_all (λ (id : Id). id.region ≤ region) (module_ids whole) fresh);
+    }
+
+    takes : Takes (length c.globals) region lanes ws_old base (λ y. 0) rewritten_list
+    takes =
+        subst (Takes (length c.globals) region lanes ws_old base (λ y. 0)) (append_none writes.adds.new ∙ sym writes.adds.are)
+        (writes.adds.takes base (λ y. 0) ready (λ y. let same = reorder y in let le = window_few y in omega (arith, same, le)) [] (λ known now r fewer. tt))
+
+    -- the new window
+    abbrev ws : List Inst
+    ws = without gone rewritten_list
+
+    created_stays : (i : Inst) → is_created region i ≡ true → is_id_in gone i.id ≡ false
+    created_stays i e = by_test (is_id_in gone i.id) refl
+      where
+        by_test : (b : Bool) → is_id_in gone i.id ≡ b → b ≡ false
+        by_test true g = absurd (true_false (sym e ∙ old i.id (gone_block i.id g)))
+        by_test false g = refl
+
+    fine : Fine (length c.globals) region lanes base ws_old ws
+    fine = takes_fine (length c.globals) region lanes ws_old ws ws_old base (λ y. 0) (λ y z. refl)
+        (takes_without (length c.globals) region lanes ws_old gone created_stays rewritten_list base (λ y. 0) (λ y. 0) (λ y. omega (arith)) takes)
+
+    -- ---- the setting
+
+    may_lane : (y : Id) → is_id_in lanes y ≡ true → MayGo block y
+    may_lane y h = let l = lane_is y h in record { inst = l.inst; stands = l.stands; may = l.may }
+
+    lanes_stay : (y : Id) → is_id_in lanes y ≡ true → is_id_in gone y ≡ false
+    lanes_stay y h = by_test (is_id_in gone y) refl
+      where
+        by_test : (b : Bool) → is_id_in gone y ≡ b → b ≡ false
+        by_test true g = absurd (true_false (sym h ∙ (leaves_is y g).other))
+        by_test false g = refl
+
+    unwanted_is : (y : Id) → is_id_in lanes y ≡ true → times y ws ≡ 0 → (users lanes gone (uses_of y (funcs_of whole.items)) ≡ true) × (uses_value y new ≡ false)
+    unwanted_is y h z = unwanted whole lanes gone new y (by_test (wanted y) refl)
+      where
+        by_test : (b : Bool) → wanted y ≡ b → b ≡ false
+        by_test true w =
+            let same = kept_times gone y rewritten_list (lanes_stay y h) in
+            let lane = lane_window y h in
+            let again = reorder y in
+            let some = written_wants (length c.globals) region lanes ws_old base whole wanted tree
+            (nodes_known (length c.globals) base whole block last (λ v. refl) (operands_known c block formed) tree ok.nodes) groups groups_ok start tt y h w (omega (arith, lane, again)) in
+            absurd (omega (arith, z, same, some))
+        by_test false w = refl
+
+    groups_read : Every (Every (λ (j : Inst). is_created region j ≡ false)) groups
+    groups_read = every_map (IsGroup (length c.globals) region lanes ws_old base tree) (Every (λ (j : Inst). is_created region j ≡ false)) reads groups groups_ok
+      where
+        reads : (g : List Inst) → IsGroup (length c.globals) region lanes ws_old base tree g → Every (λ (j : Inst). is_created region j ≡ false) g
+        reads [] h = tt
+        reads (i ∷ is) h = every_map (Member (length c.globals) region lanes ws_old base) (λ (j : Inst). is_created region j ≡ false) (λ j k. k.read) (i ∷ is) h.0
+
+    new_is : new ≡ only_created region rewritten_list
+    new_is = (written_alike region whole (λ y. false) wanted tree groups groups_read start start (record { vectors = refl; next = refl; insts = refl })).insts
+
+    setting : Setting (length c.globals) region base c front ws_old x zs lanes gone new ws
+    setting = record {
+      few = few;
+      lane = λ y h. (lane_window y h, may_lane y h);
+      goes = λ y h. let l = leaves_is y h in (record { inst = l.inst; stands = l.stands; may = l.may }, l.other, l.used, l.created);
+      lanes_once = ok.once;
+      gone_once = going_once whole lanes new block (length block) few_in;
+      kinds = every_without (Kind (length c.globals) region lanes ws_old base) gone rewritten_list (subst (Every (Kind (length c.globals) region lanes ws_old base)) (sym writes.adds.are) writes.adds.kinds);
+      unwritten = λ y h. gone_times gone y rewritten_list h;
+      unwanted = unwanted_is;
+      unused = λ y e. every_without (λ (i : Inst). is_created region i ≡ true → uses_id y i ≡ false) gone rewritten_list (unused_new region y rewritten_list (ap (uses_value y) (sym new_is) ∙ e));
+      covers = λ y some lane going. let same = kept_times gone y rewritten_list going in let again = reorder y in
+          let kept = writes.adds.keeps y (omega (arith, some, again)) lane in let whole_list = ap (times y) writes.adds.are in omega (arith, same, kept, whole_list);
+      earlier = λ f rest i v e p u a. stands_earlier c block formed reached f rest i v e p u a;
+      old = old;
+    }
+
+    -- ---- the changes, and where they lead
+
+    abbrev plan : Plan
+    plan = plan_of whole region block tree lanes groups
+
+    abbrev stepped : List Change
+    stepped = steps region lanes x.id ws
+
+    led : (all_applied stepped whole ≡ plug c (after (length c.globals) region base c front ws_old x zs lanes gone new ws setting)) × AllFit stepped whole
+    led =
+        let w = window_is (length c.globals) region lanes c front x zs plain_x refl ws ws_old [] base
+        (λ y. sym (numbers (length c.globals) region lanes c front x zs plain_x refl ws_old [] y)) (λ y. let le = few y in let ids = ids_plug c block y in omega (arith, le, ids)) fine in
+        (w.0 ∙ ap (λ l. plug c (front ++ (l ++ (ws ++ x ∷ zs)))) (left_is (length c.globals) region lanes ws ws_old), w.1)
+
+    abbrev goers : List Id
+    goers = not_among (ids_of ws) lanes ++ gone
+
+    gone_all : Goes c goers (after (length c.globals) region base c front ws_old x zs lanes gone new ws setting) (length goers)
+    gone_all = all_go c (length goers) goers (after (length c.globals) region base c front ws_old x zs lanes gone new ws setting) refl (going_facts (length c.globals) region base c front ws_old x zs lanes gone new ws setting)
+
+    abbrev made_changes : List Change
+    made_changes = stepped ++ removals (length goers) (all_applied stepped whole) goers
+
+    abbrev result : List Inst
+    result = without gone front ++ (ws ++ without gone (x ∷ zs))
+
+    made_lead : (all_applied made_changes whole ≡ plug c result) × AllFit made_changes whole
+    made_lead = (
+      applied_append stepped (removals (length goers) (all_applied stepped whole) goers) whole
+          ∙ ap (λ m. all_applied (removals (length goers) m goers) m) led.0
+          ∙ gone_all.0 ∙ ap (plug c) (leaves (length c.globals) region base c front ws_old x zs lanes gone new ws setting),
+      fit_append stepped (removals (length goers) (all_applied stepped whole) goers) whole led.1
+          (subst (λ m. AllFit (removals (length goers) m goers) m) (sym led.0) gone_all.1),
+    )
+
+    -- ---- as the definitions say it
+
+    found_s : found whole s ≡ Some (record { place = place_of c; block = block; inst = store })
+    found_s = found_plug c block s store finds (let le = few s in let some = find_times s block store finds in omega (arith, le, some))
+
+    block_is : block_of (found whole s) ≡ block
+    block_is = ap block_of found_s
+
+    plan_is : plan_of whole region block tree (joined_ids bundles) groups ≡ plan
+    plan_is = ap (λ ls. plan_of whole region block tree ls groups) (joined_is bundles)
+
+    next_x : next_after last block ≡ Some x.id
+    next_x = next_is last block ∙ ap id_of cut_after
+
+    changes_are : changes whole region (s ∷ stores) ≡ Some made_changes
+    changes_are =
+        ap (λ b. changes_of whole region b (last_in (s ∷ stores) s b) (tree_in whole b (last_in (s ∷ stores) s b) (s ∷ stores)) (bundles_of b (tree_in whole b (last_in (s ∷ stores) s b) (s ∷ stores)))) block_is
+        ∙ ap (option_map (λ gs. changes_in whole region block last (plan_of whole region block tree (joined_ids bundles) gs))) ordered.1
+        ∙ ap (λ p. Some (changes_in whole region block last p)) plan_is
+        ∙ ap (λ o. Some (before_next whole region plan o)) next_x
+
+    rewritten_is : rewritten whole region (s ∷ stores) ≡ Some result
+    rewritten_is =
+        ap (λ b. rewritten_in whole region b (last_in (s ∷ stores) s b) (tree_in whole b (last_in (s ∷ stores) s b) (s ∷ stores)) (bundles_of b (tree_in whole b (last_in (s ∷ stores) s b) (s ∷ stores)))) block_is
+        ∙ ap (option_map (λ gs. rewritten_by whole region block bundles last (plan_of whole region block tree (joined_ids bundles) gs))) ordered.1
+        ∙ ap (λ p. Some (rewritten_by whole region block bundles last p)) plan_is
+        ∙ ap (λ f. Some (without gone (f ++ (rewritten_list ++ after_inst last block)))) cut_front
+        ∙ ap (λ a. Some (without gone (front ++ (rewritten_list ++ a)))) cut_after
+        ∙ ap Some (without_append gone front (rewritten_list ++ x ∷ zs) ∙ ap (λ u. without gone front ++ u) (without_append gone rewritten_list (x ∷ zs)))
+
+    pub law : Leads whole region (s ∷ stores)
+    law = record {
+      list = made_changes;
+      are = changes_are;
+      fit = made_lead.1;
+      there =
+          ap (option_map (λ insts. with_insts s insts whole)) rewritten_is
+          ∙ ap Some (with_insts_plug c block result s (let le = few s in let some = find_times s block store finds in omega (arith, le, some)) (defines_found s block store finds) ∙ sym made_lead.0);
+    }
+
+-- ---- the law, on any block
+
+module _ (c : Context) (block : List Inst) (region : ℕ) (s : Id) (stores : List Id) (formed : IsFormed (plug c block)) (fresh : IsFresh (plug c block) region)
+    (reached : IsReached (graph_of (func_in c block)) (length c.blocks_before)) (store : Inst) (finds : find s block ≡ Some store) (each : Every (λ y. 1 ≤ times y block) (s ∷ stores))
+    (root : is_root_widened (tree_in (plug c block) block (last_in (s ∷ stores) s block) (s ∷ stores)) ≡ true) where
+  abbrev last_store : Id
+  last_store = last_in (s ∷ stores) s block
+
+  abbrev all_bundles : List (List Id)
+  all_bundles = bundles_of block (tree_in (plug c block) block last_store (s ∷ stores))
+
+  last_in_stores : is_id_in (s ∷ stores) last_store ≡ true
+  last_in_stores = last_among (s ∷ stores) s block (of_stores.first_in c block s stores formed each root)
+
+  last_inst : (i : Inst) × (find last_store block ≡ Some i) × Removable i
+  last_inst = of_stores.store_of c block s stores formed each root (s ∷ stores) (of_stores.root_lanes c block s stores formed each root) last_store last_in_stores
+
+  parts : FoundParts last_store block last_inst.0
+  parts = found_parts last_store block last_inst.0 last_inst.1
+
+  -- a store ends no block
+  something : (y : Inst) × (more : List Inst) × (parts.rest ≡ y ∷ more)
+  something = ends_after parts.front last_inst.0 parts.rest (subst Rattle.ir_types.specs.Formed.EndsOnce parts.are (block_formed c block formed).ends) last_inst.2.2
+
+  next_are : after_inst last_store block ≡ something.0 ∷ something.1
+  next_are = parts.next ∙ something.2
+
+  cut : before_member all_bundles block ++ (window block last_store all_bundles ++ something.0 ∷ something.1) ≡ block
+  cut =
+      ap (λ a. before_member all_bundles block ++ (window block last_store all_bundles ++ a)) (sym next_are)
+      ∙ block_cut all_bundles last_store block
+      (has_of all_bundles last_store (up_to last_store block) (up_to_has last_store block (find_times last_store block last_inst.0 last_inst.1))
+      (member_joined all_bundles last_store ∙ of_stores.store_lane c block s stores formed each root last_store last_in_stores))
+
+  abbrev Lawful : List Inst → Type 0
+  Lawful l =
+      IsFormed (plug c l) → IsFresh (plug c l) region → IsReached (graph_of (func_in c l)) (length c.blocks_before) → find s l ≡ Some store → Every (λ y. 1 ≤ times y l) (s ∷ stores) →
+      is_root_widened (tree_in (plug c l) l (last_in (s ∷ stores) s l) (s ∷ stores)) ≡ true →
+      before_member (bundles_of l (tree_in (plug c l) l (last_in (s ∷ stores) s l) (s ∷ stores))) l ≡ before_member all_bundles block →
+      window l (last_in (s ∷ stores) s l) (bundles_of l (tree_in (plug c l) l (last_in (s ∷ stores) s l) (s ∷ stores))) ≡ window block last_store all_bundles →
+      after_inst (last_in (s ∷ stores) s l) l ≡ something.0 ∷ something.1 → Leads (plug c l) region (s ∷ stores)
+
+  pub law_of_block : Leads (plug c block) region (s ∷ stores)
+  law_of_block =
+      subst Lawful cut
+      (λ f r w e a t b v n. law c (before_member all_bundles block) (window block last_store all_bundles) something.0 something.1 region s stores f r w store e a t b v n)
+      formed fresh reached finds each root refl refl next_are
+
+-- ---- the law
+
+pub changes_do_lead : ChangesLead
+changes_do_lead m region [] formed fresh lawful widened = absurd cc
+changes_do_lead m region (s ∷ stores) formed fresh lawful widened =
+    let h = here_of m s stores formed lawful in
+    subst (λ n. IsFormed n → IsFresh n region → is_root_widened (tree_of n (s ∷ stores)) ≡ true → Leads n region (s ∷ stores)) h.whole
+    (λ f r w. law_of_block h.context h.insts region s stores f r h.reached h.store h.finds h.each (root_of h.context h.insts f h.store h.finds w))
+    formed fresh widened
+  where
+    root_of : (c : Context) (block : List Inst) → IsFormed (plug c block) → (store : Inst) → find s block ≡ Some store → is_root_widened (tree_of (plug c block) (s ∷ stores)) ≡ true →
+        is_root_widened (tree_in (plug c block) block (last_in (s ∷ stores) s block) (s ∷ stores)) ≡ true
+    root_of c block f store finds w =
+        let le = times_few c block f s in
+        let some = find_times s block store finds in
+        subst (λ b. is_root_widened (tree_in (plug c block) b (last_in (s ∷ stores) s b) (s ∷ stores)) ≡ true)
+        (ap block_of (found_plug c block s store finds (omega (arith, le, some)))) w

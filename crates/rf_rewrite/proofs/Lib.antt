@@ -1,0 +1,19 @@
+-- Why laws of rewriting hold.
+pub mod Contexts
+pub mod Parts
+pub mod Window
+pub mod Gone
+pub mod Taking
+pub mod Making
+pub mod Alike
+pub mod Groups
+pub mod Trees
+pub mod Blocks
+pub mod Earlier
+pub mod Scan
+pub mod Left
+pub mod Setting
+pub mod Roots
+pub mod Cutting
+pub mod Stores
+pub mod Law

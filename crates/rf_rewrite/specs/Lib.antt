@@ -1,0 +1,2 @@
+-- What laws of rewriting speak of.
+pub mod Rewritten
