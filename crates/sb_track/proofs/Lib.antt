@@ -1,1 +1,5 @@
 -- Lemmas on tracked sandboxes.
+pub mod Unwinding
+pub mod Agreeing
+pub mod Sorting
+pub mod Indices

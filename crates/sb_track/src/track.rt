@@ -3,7 +3,7 @@
 //! Its methods are those of `Tracked`, with what holds of it at all times (`IsTracked`) written out. Without a mark there is nothing to take
 //! back, and a change is made for good.
 
-ghost use Rattle.std.specs.Prelude.{◌≡◌, ◌≤◌, ◌+◌, [], None, Some, IsSome, IfOk, IfErr, OnOk, OnErr};
+ghost use Rattle.std.specs.Prelude.{◌≡◌, ◌≤◌, ◌<◌, ◌+◌, [], ◌∷◌, ◌++◌, length, vec_capacity, None, Some, IsSome, IfOk, IfErr, OnOk, OnErr};
 ghost use Rattle.ir_types.specs.declared.module.Module.{Module};
 ghost use Rattle.ir_types.specs.Formed.{IsFormed};
 ghost use Rattle.vx_view.specs.Answers.{answer};
@@ -30,6 +30,18 @@ pub(crate) struct Track {
     pub(crate) mark: Option<u64>,
     /// What was asked since notes were opened.
     pub(crate) notes: Option<Notes>,
+}
+
+/// Puts what takes a change back at the end; there is room.
+fn keep(undos: &mut Vec<Undo>, undo: Undo)
+    requires { length undos.old.items < vec_capacity undos.old }
+    ensures items { undos.new.items ≡ undos.old.items ++ undo ∷ [] }
+    ensures room { vec_capacity undos.new ≡ vec_capacity undos.old }
+{
+    match undos.push(undo) {
+        Ok(()) => (),
+        Err(_) => unreachable!(),
+    }
 }
 
 impl Track {
@@ -119,9 +131,7 @@ impl Track {
             return Err(self.refusal(change));
         }
         let undo = self.sand.edit(change)?;
-        if self.undos.push(undo).is_err() {
-            unreachable!();
-        }
+        keep(&mut self.undos, undo);
         Ok(())
     }
 
