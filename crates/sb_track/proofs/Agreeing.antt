@@ -1,7 +1,6 @@
 -- What is noted is answered so in each module that a view then stands for.
-use Rattle.std.proofs.Common.{◌≡◌, refl, sym, ap, ◌∙◌, subst, ℕ, suc, ◌+◌, Bool, true, false, ◌||◌, Option, None, Some, List, [], ◌∷◌, ◌++◌, cond, nat_eq, arith}
-use Rattle.std.specs.List.{All, list_any}
-use Rattle.std.proofs.lemmas.Bool.Decides.{nat_tests}
+use Rattle.std.proofs.Common.{◌≡◌, refl, sym, ap, ◌∙◌, subst, ℕ, suc, ◌+◌, Bool, true, false, ◌||◌, Option, None, Some, List, [], ◌∷◌, ◌++◌, cond, reverse, arith}
+use Rattle.std.specs.List.{All}
 use Rattle.std.proofs.lemmas.List.Elements.{All-nil, All-cons, All-append}
 use Rattle.ir_types.specs.declared.module.Module.{Module}
 use Rattle.ir_types.specs.Formed.{IsFormed}
@@ -13,8 +12,11 @@ use Rattle.vx_view.specs.declared.answer.Answer.{Answer}
 use Rattle.vx_view.specs.declared.read.Read.{Read}
 use Rattle.vx_view.specs.Answers.{answer, Agrees}
 use Rattle.vx_view.specs.UsesAfter.{Contents}
-use Rattle.vx_view.specs.Views.{Saved, State, StandsIn, StandsFor, same_question, is_noted, noting, notes_after, after_asking}
+use Rattle.vx_view.specs.Views.{Saved, State, StandsIn, StandsFor, same_question, is_noted, noting, notes_after, after_asking, NotBoth, IsAskable}
 use Rattle.vx_view.proofs.Blocks.{place_is}
+use Rattle.sb_values.specs.Sandboxes.{state, contents}
+use Rattle.sb_track.specs.declared.track.Track.{Track}
+use Rattle.sb_track.specs.Tracking.{unwound, base, saved_at, seen, IsIdle, AllAgree, IsTracked}
 
 false_true : false ≡ true → ⊥
 false_true e = cc
@@ -75,3 +77,39 @@ module _ (q : Question) (a : Answer) where
   stands_still own None saved e here = refl
   stands_still own (Some reads) (Some saved) e here = refl
   stands_still own (Some reads) None e here = (here.0, noted_own own.own reads e here.1)
+
+-- ---- a tracked sandbox
+
+-- what is noted is of the own module where no mark is open
+pub stands_own : (t : Track) → IsTracked t → StandsFor (seen t) (seen t).contents.own
+stands_own t h = by_both t.notes t.mark h.agree h.idle
+  where
+    by_both : (notes : Option (List Read)) (mark : Option ℕ) → AllAgree notes (base t).own → IsIdle mark t.undos.items → StandsIn (contents t.sand) notes (saved_at mark (base t)) (contents t.sand).own
+    by_both None None agree idle = refl
+    by_both None (Some n) agree idle = refl
+    by_both (Some reads) (Some n) agree idle = refl
+    by_both (Some reads) None agree idle = subst (λ us. AllAgree (Some reads) (unwound (reverse us) (state t.sand)).own) idle agree
+
+-- a question that is answered by the own module
+module _ (q : Question) (a : Answer) (t u : Track) (sand : u.sand ≡ t.sand) (undos : u.undos ≡ t.undos) (mark : u.mark ≡ t.mark) (notes : u.notes ≡ notes_after q a t.notes) where
+  pub noted_seen : seen u ≡ after_asking q a (seen t)
+  noted_seen = λ i. record { contents = contents (sand i); notes = notes i; saved = saved_at (mark i) (unwound (reverse (undos i).items) (state (sand i))) }
+
+  asked_agree : (n : Option (List Read)) (m : Option ℕ) → NotBoth n (saved_at m (base t)) → answer (contents t.sand).own q ≡ a → IsIdle m t.undos.items → AllAgree n (base t).own → AllAgree (notes_after q a n) (base t).own
+  asked_agree None m both e idle agree = tt
+  asked_agree (Some reads) (Some k) both e idle agree = absurd both
+  asked_agree (Some reads) None both e idle agree =
+      let here : answer (base t).own q ≡ a = subst (λ us. answer (unwound (reverse us) (state t.sand)).own q ≡ a) (sym idle) e in
+      (agree.0, noted_own q a (base t).own reads here agree.1)
+
+  pub asked_tracked : IsTracked t → IsAskable (seen t) → answer (contents t.sand).own q ≡ a → IsTracked u
+  asked_tracked h both e = subst IsTracked (sym same) (record { undo = h.undo; kept = h.kept; idle = h.idle; agree = asked_agree t.notes t.mark both e h.idle h.agree })
+    where
+      same : u ≡ record { sand = t.sand; undos = t.undos; mark = t.mark; notes = notes_after q a t.notes }
+      same = λ i. record { sand = sand i; undos = undos i; mark = mark i; notes = notes i }
+
+  pub asked_holds : IsTracked t → answer (contents t.sand).own q ≡ a → (m : Module) → StandsFor (seen u) m → answer m q ≡ a
+  asked_holds h e m there = holds_in q a (contents t.sand) t.notes (seen t).saved e (stands_own t h) m (subst (λ (s : State). StandsFor s m) noted_seen there)
+
+  pub asked_own : IsTracked t → answer (contents t.sand).own q ≡ a → StandsFor (seen u) (seen u).contents.own
+  asked_own h e = subst (λ (s : State). StandsFor s s.contents.own) (sym noted_seen) (stands_still q a (contents t.sand) t.notes (seen t).saved e (stands_own t h))

@@ -3,3 +3,4 @@ pub mod Unwinding
 pub mod Agreeing
 pub mod Sorting
 pub mod Indices
+pub mod Telling

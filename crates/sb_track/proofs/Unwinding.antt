@@ -1,9 +1,12 @@
 -- What is undone in turn, after a change that is kept, and where only room changed.
-use Rattle.std.proofs.Common.{◌≡◌, refl, sym, ap, ◌∙◌, subst, ℕ, Bool, true, false, Option, None, Some, List, [], ◌∷◌, ◌++◌, reverse}
+use Rattle.std.proofs.Common.{◌≡◌, refl, sym, ap, ◌∙◌, subst, ℕ, ◌+◌, ◌-◌, ◌≤◌, min, length, arith, Bool, true, false, Option, None, Some, List, [], ◌∷◌, ◌++◌, reverse}
 use Rattle.std.specs.Prelude.{IsSome}
 use Rattle.std.proofs.lemmas.List.{reverse-append}
 use Rattle.vx_view.specs.declared.read.Read.{Read}
 use Rattle.vx_view.specs.Views.{Saved}
+use Rattle.vx_view.specs.declared.change.Change.{Change}
+use Rattle.vx_view.specs.declared.change.Change.TheVariants.{Insert, Remove, Move, Replace, SetOperand}
+use Rattle.vx_view.specs.UsesAfter.{cost}
 use Rattle.sb_values.specs.declared.sandbox.Sandbox.{Sandbox}
 use Rattle.sb_values.specs.declared.undo.Undo.{Undo}
 use Rattle.sb_values.specs.Sandboxes.{State as Inner, state, contents_of, contents, IsWhole}
@@ -80,3 +83,16 @@ module _ (us vs : List Undo) (u : Undo) (items : us ≡ vs ++ u ∷ []) where
 
   pub one_kept : (p : Sandbox) → AllKept (reverse us) p → IsKept u p × AllKept (reverse vs) p
   one_kept p h = subst (λ ws. AllKept ws p) last_first h
+
+-- ---- room
+
+-- one entry more where room for one was made
+pub room_left : (sand now cost room more after len : ℕ) → sand ≤ now + cost → 1 ≤ cost → room ≤ more → more ≤ after → min sand (room - len) ≤ min now (after - (len + 1)) + cost
+room_left sand now cost room more after len left one made kept = omega (arith, left, one, made, kept)
+
+pub costs_one : (c : Change) → 1 ≤ cost c
+costs_one (Insert x new) = omega (arith)
+costs_one (Remove x) = omega (arith)
+costs_one (Move y x) = omega (arith)
+costs_one (Replace new) = omega (arith)
+costs_one (SetOperand x slot o) = omega (arith)

@@ -36,7 +36,7 @@ pub(crate) struct Track {
 fn keep(undos: &mut Vec<Undo>, undo: Undo)
     requires { length undos.old.items < vec_capacity undos.old }
     ensures items { undos.new.items ≡ undos.old.items ++ undo ∷ [] }
-    ensures room { vec_capacity undos.new ≡ vec_capacity undos.old }
+    ensures room { vec_capacity undos.old ≤ vec_capacity undos.new }
 {
     match undos.push(undo) {
         Ok(()) => (),
