@@ -1,9 +1,7 @@
 -- What is noted is answered so in each module that a view then stands for.
-use Rattle.std.proofs.Common.{◌≡◌, refl, sym, ap, ◌∙◌, subst, ℕ, suc, ◌+◌, Bool, true, false, ◌||◌, Option, None, Some, List, [], ◌∷◌, ◌++◌, cond, reverse, arith}
-use Rattle.std.specs.List.{All}
+use Rattle.std.proofs.Common.{◌≡◌, refl, sym, ap, ◌∙◌, subst, ℕ, Bool, true, false, ◌||◌, Option, None, Some, List, [], ◌∷◌, ◌++◌, cond, reverse}
 use Rattle.std.proofs.lemmas.List.Elements.{All-nil, All-cons, All-append}
 use Rattle.ir_types.specs.declared.module.Module.{Module}
-use Rattle.ir_types.specs.Formed.{IsFormed}
 use Rattle.ir_types.proofs.Formed.{Every, every_of_all}
 use Rattle.ir_types.proofs.Among.{same_is}
 use Rattle.vx_view.specs.declared.question.Question.{Question}

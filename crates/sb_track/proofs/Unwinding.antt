@@ -1,15 +1,13 @@
 -- What is undone in turn, after a change that is kept, and where only room changed.
-use Rattle.std.proofs.Common.{◌≡◌, refl, sym, ap, ◌∙◌, subst, ℕ, ◌+◌, ◌-◌, ◌≤◌, min, length, arith, Bool, true, false, Option, None, Some, List, [], ◌∷◌, ◌++◌, reverse}
+use Rattle.std.proofs.Common.{◌≡◌, sym, ap, ◌∙◌, subst, ℕ, ◌+◌, ◌-◌, ◌≤◌, min, arith, true, false, Option, None, Some, List, [], ◌∷◌, ◌++◌, reverse}
 use Rattle.std.specs.Prelude.{IsSome}
 use Rattle.std.proofs.lemmas.List.{reverse-append}
-use Rattle.vx_view.specs.declared.read.Read.{Read}
-use Rattle.vx_view.specs.Views.{Saved}
 use Rattle.vx_view.specs.declared.change.Change.{Change}
 use Rattle.vx_view.specs.declared.change.Change.TheVariants.{Insert, Remove, Move, Replace, SetOperand}
 use Rattle.vx_view.specs.UsesAfter.{cost}
 use Rattle.sb_values.specs.declared.sandbox.Sandbox.{Sandbox}
 use Rattle.sb_values.specs.declared.undo.Undo.{Undo}
-use Rattle.sb_values.specs.Sandboxes.{State as Inner, state, contents_of, contents, IsWhole}
+use Rattle.sb_values.specs.Sandboxes.{State as Inner, state, contents_of, IsWhole}
 use Rattle.sb_values.specs.Undoing.{undone, GoesBack, IsKept, CanUndo, KeepsPlaces}
 use Rattle.sb_track.specs.declared.track.Track.{Track}
 use Rattle.sb_track.specs.Tracking.{unwound, AllUndo, AllKept, base, saved_at, seen, IsIdle, AllAgree, IsTracked, IsLike}

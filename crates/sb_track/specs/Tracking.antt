@@ -1,7 +1,7 @@
 -- What a tracked sandbox holds, and what it is as a view.
 --
 -- It has a sandbox, and what takes back each change since its save. All of these undone, the newest first, give the state at the save.
-use Rattle.std.specs.Prelude.{◌≡◌, refl, ℕ, ◌-◌, min, Option, None, Some, List, [], ◌∷◌, length, reverse, vec_capacity, ⊤}
+use Rattle.std.specs.Prelude.{◌≡◌, ℕ, ◌-◌, min, Option, None, Some, List, [], ◌∷◌, length, reverse, vec_capacity, ⊤}
 use Rattle.ir_types.specs.declared.module.Module.{Module}
 use Rattle.ir_types.specs.Formed.{IsFormed}
 use Rattle.vx_view.specs.declared.read.Read.{Read}

@@ -132,9 +132,9 @@ impl Notes {
         let asked = asked_of(&read.question);
         self.index.reserve(1)?;
         self.reads.push(read)?;
-        if self.index.insert(asked).is_err() {
-            unreachable!();
+        match self.index.insert(asked) {
+            Ok(_) => Ok(()),
+            Err(_) => unreachable!(),
         }
-        Ok(())
     }
 }

@@ -1,11 +1,10 @@
 -- What takes the change back is kept, and leads to the same base.
-use Rattle.std.proofs.Common.{rules, arith, ◌≡◌, refl, ◌∙◌, sym, ap, ℕ, ◌+◌, ◌-◌, ◌≤◌, ◌<◌, length, [], ◌∷◌, ◌++◌, length-append, vec_capacity}
+use Rattle.std.proofs.Common.{rules, ◌≡◌, refl, ◌∙◌, sym, ap, subst, min, ◌+◌, ◌-◌, ◌≤◌, length, [], ◌∷◌, ◌++◌, length-append, vec_capacity}
 use Rattle.sb_values.specs.Sandboxes as sandbox
 use Rattle.sb_values.specs.Sandboxes.{state}
 use Rattle.vx_view.specs.UsesAfter.{cost}
-use Rattle.sb_track.specs.declared.track.Track.{Track}
-use Rattle.sb_track.specs.Tracking.{IsLike, spare}
-use Rattle.sb_track.proofs.Unwinding.{like_tracked, IsKeptAfter, kept_tracked, room_left}
+use Rattle.sb_track.specs.Tracking.{spare}
+use Rattle.sb_track.proofs.Unwinding.{like_tracked, kept_tracked, room_left, costs_one}
 use Rattle.sb_track.proofs.track.Track.apply_marked.Goals as goal
 
 pub returns-in_err-undo-clause-tracked : goal.returns-in_err-undo-clause-tracked
@@ -27,4 +26,11 @@ returns-clause-tracked c =
     }) c.requires.marked c.requires.tracked
 
 pub returns-clause-room : goal.returns-clause-room
-returns-clause-room c = ?
+returns-clause-room c within =
+    let sand : sandbox.spare c.args.self.now.sand ≤ sandbox.spare c.edit.new.self + cost c.args.change = c.in_ok-undo.ensures.room in
+    let made : vec_capacity c.args.self.now.undos ≤ vec_capacity c.reserve.new.self = search rules in
+    let long : length c.keep.new.undos.items ≡ length c.args.self.now.undos.items + 1 =
+    ap length (c.keep.ensures.items ∙ ap (λ us. us ++ c.in_ok-undo.undo ∷ []) c.reserve.ensures.items) ∙ length-append c.args.self.now.undos.items (c.in_ok-undo.undo ∷ []) in
+    subst (λ n. spare c.args.self.now ≤ min (sandbox.spare c.edit.new.self) (vec_capacity c.keep.new.undos - n) + cost c.args.change) (sym long)
+    (room_left (sandbox.spare c.args.self.now.sand) (sandbox.spare c.edit.new.self) (cost c.args.change) (vec_capacity c.args.self.now.undos) (vec_capacity c.reserve.new.self) (vec_capacity c.keep.new.undos)
+    (length c.args.self.now.undos.items) sand (costs_one c.args.change) made c.keep.ensures.room)
