@@ -1,0 +1,16 @@
+pub mod Rings
+pub mod Walks
+pub mod Standing
+pub mod Linked
+pub mod Unlinked
+pub mod Exchanged
+pub mod Stood
+pub mod Writes
+pub mod Filled
+pub mod Standings
+pub mod Wholes
+pub mod Said
+pub mod Kept
+pub mod Typing
+pub mod Opened
+pub mod Lifted
