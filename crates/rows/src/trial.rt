@@ -7,6 +7,7 @@ ghost use Rattle.std.specs.Prelude.{◌≡◌, ◌↔◌, IsTrue};
 
 use crate::row::Row;
 use std::alloc::{AllocError, Global};
+use vec_inspect::inspect_alone;
 use vec_top::sandvec_alone;
 use vx_io::{SteadySink, SteadySource};
 
@@ -32,12 +33,28 @@ impl Answer {
     }
 }
 
+/// The status of the call of some words: a question of `inspect` where they begin so, else a command of `sandvec`.
+fn call(
+    alloc: Global,
+    words: &[String],
+    input: &mut SteadySource,
+    out: &mut SteadySink,
+    err: &mut SteadySink,
+) -> u8 {
+    match words {
+        [first, asked @ ..] if first.as_str() == "inspect" => inspect_alone(
+            alloc, asked, input, out, err,
+        ),
+        _ => sandvec_alone(alloc, words, input, out, err),
+    }
+}
+
 /// What the call of a row answers.
 pub fn try_row(alloc: Global, row: &Row) -> Result<Answer, AllocError> {
     let mut input = SteadySource::new(Vec::from_slice(alloc, row.input.as_slice())?);
     let mut out = SteadySink::new(alloc, ROOM)?;
     let mut err = SteadySink::new(alloc, ROOM)?;
-    let status = sandvec_alone(alloc, row.words.as_slice(), &mut input, &mut out, &mut err);
+    let status = call(alloc, row.words.as_slice(), &mut input, &mut out, &mut err);
     Ok(Answer {
         status,
         out: Vec::from_slice(alloc, out.bytes())?,

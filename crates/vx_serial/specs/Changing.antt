@@ -15,7 +15,8 @@ use Rattle.vx_view.specs.Answers.{funcs_of, uses_of, found, after, is_less_id}
 use Rattle.vx_view.specs.Addresses.{block_of}
 use Rattle.vx_view.specs.Changes.{applied, all_applied}
 use Rattle.vx_serial.specs.Window.{id, order}
-use Rattle.vx_serial.specs.Legal.{Node, bundles_of, ids_of, sums_of, adding}
+use Rattle.vx_serial.specs.declared.node.Node.{Node}
+use Rattle.vx_serial.specs.Legal.{bundles_of, ids_of, sums_of, adding}
 use Rattle.vx_serial.specs.Tree.{tree_of, last_in}
 use Rattle.vx_serial.specs.Rewriting.{Plan, plan_of, rewritten_window, is_created, is_id_in, some, joined_ids, without, of_numbers, of_a_lane}
 

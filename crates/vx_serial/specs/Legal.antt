@@ -26,36 +26,15 @@ use Rattle.ir_types.specs.Formed.{is_phi, is_store, given_ty}
 use Rattle.vx_view.specs.Answers.{find, funcs_of, param_of, found, Standing}
 use Rattle.vx_view.specs.Addresses.{form_in, value, number, line}
 use Rattle.vx_view.specs.Conflicts.{Access, access_of, same_root, same_symbol}
+use Rattle.vx_serial.specs.declared.cause.Cause.{Cause}
+use Rattle.vx_serial.specs.declared.cause.Cause.TheVariants.{Constants, Outside, Kind, Unlike, Wide, Repeated, Taken, Far, Apart, Cycle}
+use Rattle.vx_serial.specs.declared.node.How.{How}
+use Rattle.vx_serial.specs.declared.node.How.TheVariants.{Widen, Reuse, Ident, Pack}
+use Rattle.vx_serial.specs.declared.node.Node.{Node}
 use Rattle.vx_serial.specs.Window.{id, order}
 use Rattle.std.specs.Int.{int_wrap}
 use Rattle.vx_serial.specs.Near.{looked_at}
 use Rattle.vx_serial.specs.Regions.{same_constant}
-
--- why lanes are packed
-pub data Cause : Type 0 where
-  Constants : Cause
-  Outside : Cause
-  Kind : Cause
-  Unlike : Cause
-  Wide : Cause
-  Repeated : Cause
-  Taken : Cause
-  Far : Cause
-  Apart : Cause
-  Cycle : Cause
-
--- how a bundle of lanes is had: by one instruction, by an earlier node of this number, by a vector that is there, or lane by lane
-pub data How : Type 0 where
-  Widen : How
-  Reuse : ℕ → How
-  Ident : Id → How
-  Pack : Cause → How
-
--- a bundle of lanes, how it is had, and the nodes of its slots, by their numbers
-pub record Node : Type 0 where
-  pub lanes : List Opd
-  pub how : How
-  pub slots : List ℕ
 
 -- ---- lanes that are had already
 
@@ -237,9 +216,9 @@ abbrev pub is_root : List Node → Bool
 is_root [] = true
 is_root _ = false
 
--- what packs lanes that stand in a block, where a region's last store is `last` and these nodes stand already
-abbrev pub causes : Module → List Inst → Id → List Node → List Opd → List Inst → List (Bool × Cause)
-causes m block last tree lanes is =
+-- what packs lanes that stand in a block, where a region's last store is `last` and these nodes stand already; but for the order of bundles
+abbrev pub early_causes : Module → List Inst → Id → List Node → List Opd → List Inst → List (Bool × Cause)
+early_causes m block last tree lanes is =
     (list_all is_literal lanes, Constants)
     ∷ (not (list_all (λ o. is_there (inst_of block o)) lanes), Outside)
     ∷ (not (list_all (may_widen (is_root tree)) is), Kind)
@@ -248,8 +227,14 @@ causes m block last tree lanes is =
     ∷ (are_repeated is, Repeated)
     ∷ (list_any (is_taken tree) lanes, Taken)
     ∷ (not (list_all (is_among (looked_at block last)) is), Far)
-    ∷ (not (are_in_a_row block is), Apart)
-    ∷ (is_none (order m block last (bundles_of block tree ++ ids_of is ∷ [])), Cycle) ∷ []
+    ∷ (not (are_in_a_row block is), Apart) ∷ []
+
+-- the bundles so far and this one have no order
+abbrev pub has_cycle : Module → List Inst → Id → List Node → List Inst → Bool
+has_cycle m block last tree is = is_none (order m block last (bundles_of block tree ++ ids_of is ∷ []))
+
+abbrev pub causes : Module → List Inst → Id → List Node → List Opd → List Inst → List (Bool × Cause)
+causes m block last tree lanes is = early_causes m block last tree lanes is ++ (has_cycle m block last tree is, Cycle) ∷ []
 
 abbrev pub packed : Option Cause → How
 packed None = Widen

@@ -24,6 +24,7 @@ use Rattle.ir_types.specs.Walks.{targets_at}
 use Rattle.ir_types.specs.Available.{same_id, graph_of}
 use Rattle.ir_types.specs.Formed.{is_scalar_store}
 use Rattle.vx_view.specs.Answers.{funcs_of}
+use Rattle.vx_serial.specs.declared.seed.Seed.{Seed}
 use Rattle.vx_view.specs.Addresses.{Form, form_in, value, number, line}
 use Rattle.vx_view.specs.Conflicts.{Access, access_of, same_root, same_symbol}
 
@@ -159,11 +160,6 @@ block_regions width block = in_order [] (spots block) (grouped (length (spots bl
 
 -- ---- the module
 
--- a region: its block and its stores
-pub record Region : Type 0 where
-  pub place : Place
-  pub stores : List Id
-
 abbrev pub targets_of_all : List (List ℕ) → List ℕ → List ℕ
 targets_of_all graph [] = []
 targets_of_all graph (b ∷ bs) = targets_at graph b ++ targets_of_all graph bs
@@ -177,22 +173,22 @@ reached_in (suc n) graph = reached_in n graph ++ targets_of_all graph (reached_i
 abbrev pub is_reached : List (List ℕ) → ℕ → Bool
 is_reached graph b = list_any (nat_eq b) (reached_in (length graph) graph)
 
-abbrev pub at_place : Place → List (List Id) → List Region
+abbrev pub at_place : Place → List (List Id) → List Seed
 at_place place [] = []
 at_place place (r ∷ rs) = record { place = place; stores = r } ∷ at_place place rs
 
 -- those of some blocks of a function, of which the first has a number
-abbrev pub regions_in : ℕ → ℕ → List (List ℕ) → ℕ → List Block → List Region
+abbrev pub regions_in : ℕ → ℕ → List (List ℕ) → ℕ → List Block → List Seed
 regions_in width func graph at [] = []
 regions_in width func graph at (b ∷ bs) =
     cond (is_reached graph at) (at_place (record { func = func; block = at }) (block_regions width b.insts)) [] ++ regions_in width func graph (suc at) bs
 
-abbrev pub regions_of : ℕ → ℕ → List Func → List Region
+abbrev pub regions_of : ℕ → ℕ → List Func → List Seed
 regions_of width func [] = []
 regions_of width func (f ∷ fs) = regions_in width func (graph_of f) 0 f.blocks ++ regions_of width (suc func) fs
 
 -- the regions of a module, in vector registers of so many bits
-abbrev pub regions : Module → ℕ → List Region
+abbrev pub regions : Module → ℕ → List Seed
 regions m width = regions_of width 0 (funcs_of m.items)
 
 -- ---- worked examples

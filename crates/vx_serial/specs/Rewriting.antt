@@ -26,7 +26,10 @@ use Rattle.ir_types.specs.Typed.{lane_width}
 use Rattle.vx_view.specs.Answers.{find, funcs_of, uses_of, found, is_value}
 use Rattle.vx_view.specs.Addresses.{value, number, line, block_of}
 use Rattle.vx_serial.specs.Window.{id, order, from_member, up_to}
-use Rattle.vx_serial.specs.Legal.{Node, How, Widen, Reuse, Ident, Pack, is_widened, is_literal, ty_of, insts_of, bundles_of, sums_of, adding}
+use Rattle.vx_serial.specs.declared.node.How.{How}
+use Rattle.vx_serial.specs.declared.node.How.TheVariants.{Widen, Reuse, Ident, Pack}
+use Rattle.vx_serial.specs.declared.node.Node.{Node}
+use Rattle.vx_serial.specs.Legal.{is_widened, is_literal, ty_of, insts_of, bundles_of, sums_of, adding}
 use Rattle.vx_serial.specs.Tree.{slot_count, tree_of, last_in}
 
 -- ---- what is made so far: the vectors of nodes, by their numbers, the number of the next value, and the instructions in order

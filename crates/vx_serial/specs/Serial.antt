@@ -14,17 +14,18 @@ use Rattle.vx_view.specs.Answers.{found}
 use Rattle.vx_view.specs.Addresses.{block_of}
 use Rattle.vx_view.specs.Changes.{all_applied}
 use Rattle.vx_serial.specs.Window.{id, order}
-use Rattle.vx_serial.specs.Regions.{Region, regions}
-use Rattle.vx_serial.specs.Legal.{Cause, Constants, Node, How, Widen, Reuse, Ident, Pack, bundles_of, sums_of, adding}
+use Rattle.vx_serial.specs.Regions.{regions}
+use Rattle.vx_serial.specs.declared.cause.Cause.TheVariants.{Constants}
+use Rattle.vx_serial.specs.declared.node.How.{How}
+use Rattle.vx_serial.specs.declared.node.How.TheVariants.{Widen, Reuse, Ident, Pack}
+use Rattle.vx_serial.specs.declared.node.Node.{Node}
+use Rattle.vx_serial.specs.declared.seed.Seed.{Seed}
+use Rattle.vx_serial.specs.declared.verdict.Verdict.{Verdict}
+use Rattle.vx_serial.specs.declared.verdict.Verdict.TheVariants.{Accepted, Costly, Unpackable}
+use Rattle.vx_serial.specs.Legal.{bundles_of, sums_of, adding}
 use Rattle.vx_serial.specs.Tree.{tree_of, last_in}
 use Rattle.vx_serial.specs.Rewriting.{Plan, plan_of, rewritten_window, is_created, is_id_in, joined_ids, of_numbers}
 use Rattle.vx_serial.specs.Changing.{changes_in}
-
--- what comes of a region, with the prices of what was there and of what is created
-pub data Verdict : Type 0 where
-  Accepted : ℕ → ℕ → Verdict
-  Costly : ℕ → ℕ → Verdict
-  Unpackable : Cause → Verdict
 
 -- ---- prices
 
@@ -72,7 +73,7 @@ one m table region (s ∷ stores) =
 -- ---- the pass
 
 -- regions one after another, of which the first has a number
-abbrev pub passed : Table → ℕ → List Region → Module → Module
+abbrev pub passed : Table → ℕ → List Seed → Module → Module
 passed table number [] m = m
 passed table number (r ∷ rs) m = passed table (suc number) rs (all_applied (one m table number r.stores).1 m)
 

@@ -17,7 +17,11 @@ use Rattle.ir_types.specs.Available.{same_id}
 use Rattle.vx_view.specs.Addresses.{value, block_of}
 use Rattle.vx_view.specs.Answers.{found}
 use Rattle.vx_serial.specs.Window.{id}
-use Rattle.vx_serial.specs.Legal.{Node, How, Widen, Pack, Outside, insts_of, legal, sums_of, adding}
+use Rattle.vx_serial.specs.declared.cause.Cause.TheVariants.{Outside}
+use Rattle.vx_serial.specs.declared.node.How.{How}
+use Rattle.vx_serial.specs.declared.node.How.TheVariants.{Widen, Pack}
+use Rattle.vx_serial.specs.declared.node.Node.{Node}
+use Rattle.vx_serial.specs.Legal.{insts_of, legal, sums_of, adding}
 
 -- ---- slots
 

@@ -17,6 +17,7 @@ use std::alloc::Global;
 use vx_list::TryClone;
 
 /// A module that is asked.
+#[derive(Drop)]
 pub struct PlainView<'a> {
     asked: &'a Module,
     alloc: Global,

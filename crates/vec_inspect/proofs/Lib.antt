@@ -1,0 +1,2 @@
+-- Lemmas on bundles that are asked for an order.
+pub mod Membership

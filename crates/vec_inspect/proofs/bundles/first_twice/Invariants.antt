@@ -1,0 +1,9 @@
+use Rattle.std.proofs.Common.{◌≡◌, length}
+use Rattle.vec_inspect.specs.Members.{first_twice}
+use Rattle.vec_inspect.proofs.bundles.first_twice.Given as goal
+
+abbrev pub invariant-loop-left : goal.invariant-loop-left
+invariant-loop-left l = first_twice l.left ≡ first_twice l.fn.members
+
+abbrev pub decreases-loop-left : goal.decreases-loop-left
+decreases-loop-left l = length l.left
