@@ -73,4 +73,4 @@ pub record IsMade (c : Change) (u : Undo) (p q : Parts) : Type 0 where
   pub keeps : KeepsPlaces p q
   pub back : undone u (state q) ≡ state p
   pub can : GoesBack u (state q)
-  pub kept : IsKept u q.lines
+  pub kept : IsKept u q

@@ -13,7 +13,6 @@ use Rattle.vx_view.specs.Changes.{applied}
 use Rattle.vx_view.specs.Uses.{lifted}
 use Rattle.sb_uses.specs.Stock.{Stock, HasSlots, withdrawn, restored, set_back, CanRestore, CanSetBack}
 use Rattle.sb_uses.specs.StockAfter.{opds_of, stock_after}
-use Rattle.sb_lines.specs.declared.arena.Arena.{Arena}
 use Rattle.sb_lines.specs.Arena.{knows}
 use Rattle.sb_lines.specs.Spots.{put_in, moved_to, HasSpot, CanPut, IsBeforeOther, operand}
 use Rattle.sb_values.specs.declared.parts.Parts.{Parts}
@@ -70,19 +69,19 @@ GoesBack (Replaced old) s =
 GoesBack (Set id slot old) s = OperandGoesBack id slot (operand s.own id slot) s.stock × (0 < s.held)
 
 -- what was taken out still has its place
-abbrev pub IsKept : Undo → Arena → Type 0
-IsKept (Removed spot) a = knows a spot.inst.id ≡ true
-IsKept _ a = ⊤
+abbrev pub IsKept : Undo → Parts → Type 0
+IsKept (Removed spot) p = knows p.lines spot.inst.id ≡ true
+IsKept _ p = ⊤
 
 -- a change can be undone: the state is as the change left it
 pub record CanUndo (u : Undo) (p : Parts) : Type 0 where
   pub parts : GoesBack u (state p)
   pub whole : IsWhole (undone u (state p))
-  pub kept : IsKept u p.lines
+  pub kept : IsKept u p
 
 -- what could be kept still is
 abbrev pub KeepsPlaces : Parts → Parts → Type 0
-KeepsPlaces p q = (u : Undo) → IsKept u p.lines → IsKept u q.lines
+KeepsPlaces p q = (u : Undo) → IsKept u p → IsKept u q
 
 -- ---- a worked example: an instruction comes before the return and goes again
 

@@ -75,7 +75,7 @@ impl Parts {
     pub(crate) fn take_back(&mut self, undo: Undo)
         requires can { GoesBack undo (state self.old) }
         requires few { (undone undo (state self.old)).held ≤ 4294967295 }
-        requires kept { IsKept undo self.old.lines }
+        requires kept { IsKept undo self.old }
         ensures now { state self.new ≡ undone undo (state self.old) }
         ensures keeps { KeepsPlaces self.old self.new }
     {
@@ -151,7 +151,7 @@ impl Parts {
     fn bring_back(&mut self, spot: Spot)
         requires can { GoesBack (Undo.Removed spot) (state self.old) }
         requires few { (undone (Undo.Removed spot) (state self.old)).held ≤ 4294967295 }
-        requires kept { IsKept (Undo.Removed spot) self.old.lines }
+        requires kept { IsKept (Undo.Removed spot) self.old }
         ensures now { state self.new ≡ undone (Undo.Removed spot) (state self.old) }
         ensures keeps { KeepsPlaces self.old self.new }
     {

@@ -8,7 +8,7 @@ ghost use Rattle.ir_types.specs.Formed.{IsFormed};
 ghost use Rattle.vx_view.specs.Answers.{answer};
 ghost use Rattle.vx_view.specs.declared.question.Question.TheVariants as ask;
 ghost use Rattle.vx_view.specs.Changes.{Fits};
-ghost use Rattle.vx_view.specs.Uses.{lifted};
+ghost use Rattle.vx_view.specs.Uses.{IsExact, lifted};
 ghost use Rattle.vx_view.specs.UsesAfter.{changed, cost};
 ghost use Rattle.vx_view.specs.Views.{Refuses};
 ghost use Rattle.sb_values.specs.Sandboxes.{state, contents, spare};
@@ -134,9 +134,10 @@ impl Sandbox {
         self.parts.slots.forget();
     }
 
-    /// The uses of a value, newest first.
+    /// The uses of a value, newest first: each slot that holds it, once.
     pub fn uses(&self, value: Id) -> Result<Uses, OutOfMemory>
-        ensures { IfOk result (λ uses. uses ≡ (contents self.now).lists value) }
+        ensures list { IfOk result (λ uses. uses ≡ (contents self.now).lists value) }
+        ensures exact { IsExact (contents self.now).own (contents self.now).lists }
     {
         self.parts.slots.list(value)
     }
