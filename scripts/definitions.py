@@ -151,6 +151,8 @@ ROWS = [
     ("how a bundle of lanes is had", "By an earlier node, by a vector that is there, packed for the first cause that holds, or widened.", "vx_serial/specs/Legal.antt", "legal", None),
     ("the tree of a region", "Its stores and what they lead to, bundle by bundle, each decided by what was visited before.", "vx_serial/specs/Tree.antt", "tree_of", None),
     ("a rewritten block", "Gathers, one vector instruction and extracts in the place of each widened bundle, without what goes.", "vx_serial/specs/Rewriting.antt", "rewritten", None),
+    ("a rewritten module", "The module with the rewritten block in the place of the region's.", "rf_rewrite/specs/Rewritten.antt", "rewritten_module", None),
+    ("the law of changes", "A region's changes fit one after another, and lead to the rewritten module.", "rf_rewrite/specs/Rewritten.antt", "ChangesLead", None),
     ("the changes of a region", "What is put in, moved, replaced and removed, one after another, to rewrite it.", "vx_serial/specs/Changing.antt", "changes", None),
     ("the verdict on a region", "Accepted where what is created costs less than what goes, costly where not, unpackable for the cause that packs its stores.", "vx_serial/specs/Serial.antt", "one", None),
     ("the serial pass", "The changes of each accepted region of the module that was read, in order.", "vx_serial/specs/Serial.antt", "serial", None),
