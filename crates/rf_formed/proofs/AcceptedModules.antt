@@ -27,8 +27,8 @@ use Rattle.rf_text.specs.Headed.{is_returned, IsParam, IsHead}
 use Rattle.rf_text.specs.Printable.{ids_from}
 use Rattle.rf_text.proofs.Cut as cuts
 use Rattle.rf_text.proofs.Cut.{Cut, text_cut}
-use Rattle.rf_text.proofs.HeadsFound.{head_of_line}
-use Rattle.rf_text.proofs.ReadableModule.{read_plain}
+use Rattle.rf_text.proofs.Heads.Found.{head_of_line}
+use Rattle.rf_text.proofs.Showable.Module.{read_plain}
 use Rattle.rf_formed.specs.Accepted.{AcceptedIsFormedButForWalks, AcceptedIsFormed, AcceptedIsNumbered}
 
 returned : (t : Ty) → is_returned t ≡ true → (t ≡ Void) ⊎ (is_value t ≡ true)

@@ -34,8 +34,8 @@ use Rattle.rf_text.specs.ModuleForms.{body_forms, module_forms}
 use Rattle.rf_text.specs.Printable.{written_names, HasNoCall, IsPrintableFunc, IsPrintableItem, IsAllowed, IsAllowedBlock, IsAllowedItem, IsKeptOpaque, IsPrintable, IsCountedItem, IsCounted}
 use Rattle.rf_text.specs.Again.{IsReadAgain}
 use Rattle.rf_text.proofs.Publics.{publics, SaySame, seen_same}
-use Rattle.rf_text.proofs.ReadableForms.{body_silent}
-use Rattle.rf_text.proofs.RenumberedForms.{any_text_again}
+use Rattle.rf_text.proofs.Showable.Forms.{body_silent}
+use Rattle.rf_text.proofs.Renumbered.Forms.{any_text_again}
 
 -- ---- stores name nothing
 

@@ -27,9 +27,9 @@ use Rattle.rf_text.specs.Limits.{insts_of, all_insts, IsSmall, IsWithinLimits}
 use Rattle.rf_text.specs.Reads.{Reads}
 use Rattle.rf_text.specs.Spelled.{Spelled}
 use Rattle.rf_text.specs.Exact.{Gives, IsExact, ReadAndResolved, ResolvedAsRead, SpelledTextsAreGiven, GivenModulesAreWithin}
-use Rattle.rf_text.proofs.SpelledCounts.{limits, none_pass}
-use Rattle.rf_text.proofs.SpellingReads.{ReadsAs, spelled_items, sized_item, sized_items}
-use Rattle.rf_text.proofs.TypedItems.{items_are_typed}
+use Rattle.rf_text.proofs.Spells.Counts.{limits, none_pass}
+use Rattle.rf_text.proofs.Spelling.Reads.{ReadsAs, spelled_items, sized_item, sized_items}
+use Rattle.rf_text.proofs.Typed.Items.{items_are_typed}
 
 -- ---- exactly
 

@@ -21,7 +21,7 @@ use Rattle.ir_read.proofs.Placing.{Place, Known}
 use Rattle.rf_text.specs.LinesOf.{stays_in_line, is_line}
 use Rattle.rf_text.specs.LinesOf as feeds
 use Rattle.rf_text.specs.OpaqueText.{opaque_forms, name_in, opaque_name, opaque_in, IsOpaqueText}
-use Rattle.rf_text.proofs.Kept.{sound_line}
+use Rattle.rf_text.proofs.Kept.Lines.{sound_line}
 use Rattle.rf_text.proofs.Splitting.{line_first}
 
 abbrev pub IsNoBrace : Option Line → Type 0

@@ -38,17 +38,17 @@ use Rattle.rf_text.specs.OpaqueText.{opaque_forms, opaque_in, IsOpaqueText}
 use Rattle.rf_text.specs.Printable.{IsKeptOpaque, IsPrintable, IsNumbered, IsCountedItem, IsCounted}
 use Rattle.rf_text.proofs.PlainItems.{IsPlainFunc, IsPlainItem, plain_items}
 use Rattle.rf_text.specs.Spelled.{closes, AreInside, NoLine, OneLine, IsBrace, solid, MayWrite, AsShown, LeftOut, IsWrittenParam, IsHeaderOf, AreBlocks, NoBlock, Labelled, Unlabelled, Laid, NoItem, EmptyLine, KeptItem, Function, OpaqueItem, Spelled}
-use Rattle.rf_text.proofs.Kept.{formed}
+use Rattle.rf_text.proofs.Kept.Lines.{formed}
 use Rattle.rf_text.proofs.OpaqueLines.{IsSound, Whole, whole_sound, IsBodyLine, function_forms, Parts, parts_of}
-use Rattle.rf_text.proofs.PlacedBlocks.{all_ahead}
-use Rattle.rf_text.proofs.PlacedModule.{apart_front, apart_after}
-use Rattle.rf_text.proofs.PlacedNames.{Ahead, Apart, pairs_apart, value_passed, label_found, label_passed}
-use Rattle.rf_text.proofs.SpellingReads.{inside_form}
+use Rattle.rf_text.proofs.Placed.Blocks.{all_ahead}
+use Rattle.rf_text.proofs.Placed.Module.{apart_front, apart_after}
+use Rattle.rf_text.proofs.Placed.Names.{Ahead, Apart, pairs_apart, value_passed, label_found, label_passed}
+use Rattle.rf_text.proofs.Spelling.Reads.{inside_form}
 use Rattle.rf_text.proofs.Splitting.{lines_of_joined}
-use Rattle.rf_text.proofs.TextLines.{Said, said_none, said_append, empty_said, gap_said, empty_read, opaque_said, item_said, all_lines}
-use Rattle.rf_text.proofs.TextLinesBodies.{keeps_inside, Keep, body_keep}
-use Rattle.rf_text.proofs.TextLinesNames.{func_headed}
-use Rattle.rf_text.proofs.TextLinesOnce.{Once, once_ids, once_front, once_back}
+use Rattle.rf_text.proofs.TextLines.Lines.{Said, said_none, said_append, empty_said, gap_said, empty_read, opaque_said, item_said, all_lines}
+use Rattle.rf_text.proofs.TextLines.Bodies.{keeps_inside, Keep, body_keep}
+use Rattle.rf_text.proofs.TextLines.Names.{func_headed}
+use Rattle.rf_text.proofs.TextLines.Once.{Once, once_ids, once_front, once_back}
 
 -- ---- lines of instructions are not empty
 

@@ -10,7 +10,7 @@ use Rattle.rf_text.specs.Spelled.{Spelled}
 use Rattle.rf_text.specs.Again.{IsReadAgain}
 use Rattle.rf_text.proofs.PrintedSpells.{printed_spells}
 use Rattle.rf_text.proofs.Renumbering.{numbered_stays}
-use Rattle.rf_text.proofs.SpellingReads.{spelled_reads}
+use Rattle.rf_text.proofs.Spelling.Reads.{spelled_reads}
 
 pub texts_again : (m : Module) → IsFormed m → IsPrintable m → IsNumbered m → IsCounted m → IsReadAgain m
 texts_again m f p n c =

@@ -26,7 +26,7 @@ use Rattle.rf_formed.proofs.AcceptedModules.{formed}
 use Rattle.rf_text.specs.Exact.{Gives}
 use Rattle.rf_text.specs.Spelled.{Spelled}
 use Rattle.rf_text.proofs.Given.{spelled_given, given_within}
-use Rattle.rf_text.proofs.SpelledModule.{texts_spell}
+use Rattle.rf_text.proofs.Spells.Module.{texts_spell}
 use Rattle.vec_top.specs.declared.cause.Cause.{Cause}
 use Rattle.vec_top.specs.declared.cause.Cause.TheVariants.{Lex, NotALine, Misplaced, Passes, TwiceDefined, Unknown, IllTyped, NotAvailable, BigEndian}
 use Rattle.vec_top.specs.declared.fault.Fault.{Fault}

@@ -1,5 +1,5 @@
 -- Bodies of functions are read again.
-use Rattle.rf_text.proofs.InstsBodies.{body_printed}
+use Rattle.rf_text.proofs.Insts.Bodies.{body_printed}
 use Rattle.rf_text.proofs.instructions.printed_bodies.Goals as goal
 
 pub returns : goal.returns

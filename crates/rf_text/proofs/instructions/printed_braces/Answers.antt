@@ -1,5 +1,5 @@
 -- Braces and empty lines are read again.
-use Rattle.rf_text.proofs.InstsLabels.{brace_printed, empty_printed}
+use Rattle.rf_text.proofs.Insts.Labels.{brace_printed, empty_printed}
 use Rattle.rf_text.proofs.instructions.printed_braces.Goals as goal
 
 pub returns : goal.returns

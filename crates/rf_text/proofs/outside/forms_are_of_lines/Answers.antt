@@ -1,5 +1,5 @@
 use Rattle.rf_text.proofs.outside.forms_are_of_lines.Goals as goal
-use Rattle.rf_text.proofs.Kept.{form_line}
+use Rattle.rf_text.proofs.Kept.Lines.{form_line}
 
 pub returns : goal.returns
 returns c = form_line

@@ -1,5 +1,5 @@
 use Rattle.rf_text.proofs.readable.read_modules_are_printable.Goals as goal
-use Rattle.rf_text.proofs.ReadableModule.{read_back}
+use Rattle.rf_text.proofs.Showable.Module.{read_back}
 
 pub returns : goal.returns
 returns c = read_back

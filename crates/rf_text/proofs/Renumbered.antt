@@ -1,0 +1,3 @@
+-- Proofs of ids given anew.
+pub mod Forms
+pub mod Text

@@ -1,0 +1,4 @@
+-- Proofs of types.
+pub mod Insts
+pub mod Items
+pub mod Marks
