@@ -10,7 +10,7 @@ use Rattle.vx_view.specs.declared.answer.Answer.{Answer}
 use Rattle.vx_view.specs.declared.read.Read.{Read}
 use Rattle.vx_view.specs.Answers.{answer, Agrees}
 use Rattle.vx_view.specs.UsesAfter.{Contents}
-use Rattle.vx_view.specs.Views.{Saved, State, StandsIn, StandsFor, same_question, is_noted, noting, notes_after, after_asking, NotBoth, IsAskable}
+use Rattle.vx_view.specs.Views.{Saved, State, StandsIn, StandsFor, same_question, is_noted, noting, notes_after, after_asking, NotBoth, IsAskable, with_notes}
 use Rattle.vx_view.proofs.Blocks.{place_is}
 use Rattle.sb_values.specs.Sandboxes.{state, contents}
 use Rattle.sb_track.specs.declared.track.Track.{Track}
@@ -111,3 +111,13 @@ module _ (q : Question) (a : Answer) (t u : Track) (sand : u.sand ≡ t.sand) (u
 
   pub asked_own : IsTracked t → answer (contents t.sand).own q ≡ a → StandsFor (seen u) (seen u).contents.own
   asked_own h e = subst (λ (s : State). StandsFor s s.contents.own) (sym noted_seen) (stands_still q a (contents t.sand) t.notes (seen t).saved e (stands_own t h))
+
+-- notes that were opened are open after two questions
+pub open_still : (s t u v : State) (q : Question) (a b : Answer) → t ≡ with_notes (Some []) s → u ≡ after_asking q a t → v ≡ after_asking q b u → v.notes ≡ None → ⊥
+open_still s t u v q a b e f g h = some_none (sym all ∙ h)
+  where
+    some_none : {A : Type 0} {x : A} → Some x ≡ None → ⊥
+    some_none r = cc
+
+    all : v.notes ≡ Some (noting q b (noting q a []))
+    all = ap (λ (w : State). w.notes) g ∙ ap (λ (w : State). notes_after q b w.notes) f ∙ ap (λ (w : State). notes_after q b (notes_after q a w.notes)) e

@@ -1,9 +1,10 @@
 -- Questions as they are found by their hash.
-use Rattle.std.specs.Prelude.{◌≡◌, Bool, true, false, ◌&&◌, ◌==◌, List}
+use Rattle.std.specs.Prelude.{◌≡◌, refl, Bool, true, false, ◌&&◌, ◌==◌, List}
 use Rattle.std.specs.List.{list_any}
 use Rattle.vx_view.specs.declared.question.Question.{Question}
 use Rattle.vx_view.specs.declared.question.Question.TheVariants as ask
 use Rattle.vx_view.specs.declared.read.Read.{Read}
+use Rattle.vx_view.specs.Answers.{value}
 use Rattle.vx_view.specs.Views.{is_noted}
 use Rattle.sb_track.specs.declared.notes.Kind.{Kind}
 use Rattle.sb_track.specs.declared.notes.Kind.TheVariants as kind
@@ -31,3 +32,11 @@ same_asked a b = same_kind a.kind b.kind && (a.major == b.major && (a.minor == b
 -- the index has a question exactly where it is noted
 abbrev pub IsIndex : List Asked → List Read → Type 0
 IsIndex keys reads = (q : Question) → list_any (same_asked (asked_of q)) keys ≡ is_noted q reads
+
+-- ---- worked examples
+
+once_more : same_asked (asked_of (ask.Next (value 1))) (asked_of (ask.Next (value 1))) ≡ true
+once_more = refl
+
+other_kind : same_asked (asked_of (ask.Next (value 1))) (asked_of (ask.Prev (value 1))) ≡ false
+other_kind = refl

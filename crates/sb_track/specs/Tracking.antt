@@ -1,14 +1,20 @@
 -- What a tracked sandbox holds, and what it is as a view.
 --
 -- It has a sandbox, and what takes back each change since its save. All of these undone, the newest first, give the state at the save.
-use Rattle.std.specs.Prelude.{◌≡◌, ℕ, ◌-◌, min, Option, None, Some, List, [], ◌∷◌, length, reverse, vec_capacity, ⊤}
+use Rattle.std.specs.Prelude.{◌≡◌, refl, ℕ, ◌-◌, min, Option, None, Some, List, [], ◌∷◌, length, reverse, vec_capacity, ⊤}
+use Rattle.ir_types.specs.declared.opd.Opd.TheVariants.{Val}
 use Rattle.ir_types.specs.declared.module.Module.{Module}
 use Rattle.ir_types.specs.Formed.{IsFormed}
 use Rattle.vx_view.specs.declared.read.Read.{Read}
-use Rattle.vx_view.specs.Answers.{Agrees}
+use Rattle.vx_view.specs.declared.change.Change.TheVariants.{Insert}
+use Rattle.vx_view.specs.Answers.{Agrees, value, line, doubles}
+use Rattle.vx_view.specs.Changes.{applied}
+use Rattle.vx_view.specs.Uses.{lifted}
 use Rattle.vx_view.specs.Views.{Saved, State}
 use Rattle.sb_values.specs.declared.sandbox.Sandbox.{Sandbox}
+use Rattle.sb_uses.specs.StockAfter.{stock_after}
 use Rattle.sb_values.specs.declared.undo.Undo.{Undo}
+use Rattle.sb_values.specs.declared.undo.Undo.TheVariants.{Inserted}
 use Rattle.sb_values.specs.Sandboxes as sandbox
 use Rattle.sb_values.specs.Sandboxes.{State as Inner, state, contents_of, contents, IsWhole}
 use Rattle.sb_values.specs.Undoing.{undone, GoesBack, IsKept, KeepsPlaces}
@@ -72,3 +78,21 @@ pub record IsLike (t u : Track) : Type 0 where
   pub undos : u.undos.items ≡ t.undos.items
   pub mark : u.mark ≡ t.mark
   pub notes : u.notes ≡ t.notes
+
+-- ---- worked examples: an instruction came before the return, and is taken back
+
+abbrev came : Inner
+came = record {
+  own = applied (Insert (value 2) (line 9 (Val (value 1) ∷ []))) doubles;
+  stock = stock_after doubles (Insert (value 2) (line 9 (Val (value 1) ∷ []))) (record { lists = lifted doubles; kept = [] });
+  held = 4;
+}
+
+taken_back : (unwound (Inserted (value 9) ∷ []) came).own ≡ doubles
+taken_back = refl
+
+with_its_use : (unwound (Inserted (value 9) ∷ []) came).stock.lists (value 1) ≡ lifted doubles (value 1)
+with_its_use = refl
+
+no_mark_is_open : saved_at None came ≡ None
+no_mark_is_open = refl

@@ -9,6 +9,8 @@
 
 mod asking;
 mod notes;
+#[cfg(test)]
+mod tests;
 mod track;
 mod tracked;
 
