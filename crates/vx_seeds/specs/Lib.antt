@@ -1,0 +1,3 @@
+-- What the search for regions keeps, as the definitions have it.
+pub mod Known
+pub mod Spots

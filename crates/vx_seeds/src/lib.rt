@@ -1,0 +1,8 @@
+//! The regions of a module: lists of neighbouring stores that may become one vector store.
+//!
+//! `regions` is the one entry point. Want of memory is the only failure.
+#![tactic(auto)]
+
+mod index;
+mod known;
+mod spot;
