@@ -2,18 +2,17 @@
 //!
 //! `spots` is the entry point. It asks for the definitions that addresses follow. Want of memory is the only failure.
 
-ghost use Rattle.std.specs.Prelude.{◌≡◌, List, IfOk, Some, [], cond};
-ghost use Rattle.ir_types.specs.declared.inst.Inst.{Inst};
-ghost use Rattle.ir_types.specs.Typed.{is_width, is_scalar};
+ghost use Rattle.std.specs.Prelude.{◌≡◌, ◌++◌, IfOk, OnOk};
+ghost use Rattle.std.specs.Option.{option_copied};
+ghost use Rattle.ir_types.specs.Typed.{is_scalar};
 ghost use Rattle.ir_types.specs.Formed.{IsFormed};
-ghost use Rattle.vx_view.specs.Answers.{find};
 ghost use Rattle.vx_view.specs.Blocks.{block_at};
 ghost use Rattle.vx_view.specs.Conflicts.{bytes_of};
 ghost use Rattle.vx_serial.specs.Regions as region;
-ghost use Rattle.vx_seeds.specs.Spots.{as_spots, spot_in, listed};
+ghost use Rattle.vx_seeds.specs.Spots.{as_spot, as_spots, spot_in, pointer_of, spot_at, IsThere};
 
 use crate::index::Index;
-use ir_types::{Id, Inst, Op, OutOfMemory, Place, Ty};
+use ir_types::{Id, Inst, Op, Opd, OutOfMemory, Place, Ty};
 use std::alloc::Global;
 use vx_addr::{Form, form};
 
@@ -48,29 +47,58 @@ fn bytes_of(ty: Ty) -> u16
     }
 }
 
-/// An instruction of a block, if it may be in a region.
-fn spot_in(
+/// The pointer of a store of a scalar.
+fn pointer_of(inst: &Inst) -> Option<&Opd>
+    ensures { option_copied result ≡ pointer_of inst.now }
+{
+    match (&inst.op, inst.opds.as_slice()) {
+        (Op::Store { .. }, [_, pointer]) if is_scalar(inst.ty) => Some(pointer),
+        _ => None,
+    }
+}
+
+/// A store of a block through a pointer.
+fn spot_at(
     alloc: Global,
     index: &mut Index<'_>,
     place: Place,
     inst: &Inst,
-) -> Result<Option<Spot>, OutOfMemory>
+    pointer: &Opd,
+) -> Result<Spot, OutOfMemory>
     requires formed { IsFormed index.old }
-    requires there { (i : Inst) × (find inst.now.id (block_at index.old place) ≡ Some i) }
-    ensures is { IfOk result (λ spot. listed spot ≡ spot_in (block_at index.old place) inst.now) }
+    requires there { IsThere inst.now.id (block_at index.old place) }
+    ensures is { IfOk result (λ spot. as_spot spot ≡ spot_at (block_at index.old place) inst.now pointer.now) }
     ensures same { index.new ≡ index.old }
 {
-    match (&inst.op, inst.opds.as_slice()) {
-        (Op::Store { .. }, [_, pointer]) if is_scalar(inst.ty) => {
-            let form = form(alloc, index, inst.id, pointer)?;
-            Ok(Some(Spot {
-                store: inst.id,
-                form,
-                size: bytes_of(inst.ty),
-            }))
+    let form = form(alloc, index, inst.id, pointer)?;
+    Ok(Spot {
+        store: inst.id,
+        form,
+        size: bytes_of(inst.ty),
+    })
+}
+
+/// Adds an instruction of a block, if it may be in a region.
+fn add(
+    alloc: Global,
+    index: &mut Index<'_>,
+    place: Place,
+    inst: &Inst,
+    spots: &mut Vec<Spot>,
+) -> Result<(), OutOfMemory>
+    requires formed { IsFormed index.old }
+    requires there { IsThere inst.now.id (block_at index.old place) }
+    ensures is { OnOk result (as_spots spots.new.items ≡ as_spots spots.old.items ++ spot_in (block_at index.old place) inst.now) }
+    ensures same { index.new ≡ index.old }
+{
+    match pointer_of(inst) {
+        Some(pointer) => {
+            let spot = spot_at(alloc, index, place, inst, pointer)?;
+            spots.push(spot)?;
         }
-        _ => Ok(None),
+        None => {}
     }
+    Ok(())
 }
 
 /// The stores of scalars of a block, in order.
@@ -86,12 +114,8 @@ pub(crate) fn spots(
     ensures same { index.new ≡ index.old }
 {
     let mut spots = Vec::new(alloc);
-    let mut left = block;
-    while let [inst, more @ ..] = left {
-        if let Some(spot) = spot_in(alloc, index, place, inst)? {
-            spots.push(spot)?;
-        }
-        left = more;
+    for inst in block {
+        add(alloc, index, place, inst, &mut spots)?;
     }
     Ok(spots)
 }
