@@ -12,6 +12,7 @@ use Rattle.vx_view.specs.Addresses.{form_in}
 use Rattle.vx_view.specs.Conflicts.{access_of, bytes_of}
 use Rattle.vx_addr.specs.Parts.{as_form}
 use Rattle.vx_serial.specs.Regions as region
+use denote.Ref.{Bor}
 use Rattle.vx_seeds.specs.declared.spot.Spot.{Spot}
 
 abbrev pub as_spot : Spot → region.Spot
@@ -44,3 +45,11 @@ spot_at block i p = record { store = i.id; form = form_in block p; size = bytes_
 abbrev pub spot_through : List Inst → Inst → Option Opd → List region.Spot
 spot_through block i None = []
 spot_through block i (Some p) = spot_at block i p ∷ []
+
+-- ---- stores that are held by reference
+
+abbrev pub at : Bor Spot → region.Spot
+at s = as_spot s.now
+
+abbrev pub held : List (Bor Spot) → List region.Spot
+held ss = map at ss

@@ -3,6 +3,9 @@
 //! `regions` is the one entry point. Want of memory is the only failure.
 #![tactic(auto)]
 
+mod chain;
+mod group;
 mod index;
 mod known;
+mod piece;
 mod spot;
