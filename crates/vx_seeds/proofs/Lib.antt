@@ -1,2 +1,4 @@
 pub mod Answering
 pub mod Standing
+pub mod Chains
+pub mod Blocks

@@ -53,3 +53,13 @@ at s = as_spot s.now
 
 abbrev pub held : List (Bor Spot) → List region.Spot
 held ss = map at ss
+
+-- the first, if there is one
+abbrev pub head : List region.Spot → Option region.Spot
+head [] = None
+head (s ∷ ss) = Some s
+
+-- the one with the least constant, the first of those, if there is one
+abbrev pub least_of : List region.Spot → Option region.Spot
+least_of [] = None
+least_of (s ∷ ss) = Some (region.least_from s ss)

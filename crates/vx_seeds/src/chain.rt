@@ -2,17 +2,27 @@
 //!
 //! `least`, `chain` and `without` are the entry points. Want of memory is the only failure.
 
-ghost use Rattle.std.specs.Prelude.{◌≡◌, IfOk, not, option_map};
+ghost use Rattle.std.specs.Prelude.{◌≡◌, ◌+ℤ◌, pos, IfOk, not, option_map};
 ghost use Rattle.vx_serial.specs.Regions as region;
 ghost use Rattle.vx_serial.specs.Regions.{those, first_of};
-ghost use Rattle.vx_seeds.specs.Spots.{as_spot, at, held};
+ghost use Rattle.vx_seeds.specs.Spots.{as_spot, at, held, least_of};
 
 use crate::spot::Spot;
 use ir_types::OutOfMemory;
 use std::alloc::Global;
 
 /// The store with the least constant, the first of those.
-pub(crate) fn least<'a>(first: &'a Spot, others: &[&'a Spot]) -> &'a Spot
+pub(crate) fn least<'a>(spots: &[&'a Spot]) -> Option<&'a Spot>
+    ensures { option_map at result ≡ least_of (held spots.now) }
+{
+    match spots {
+        [first, others @ ..] => Some(least_from(first, others)),
+        [] => None,
+    }
+}
+
+/// The least of one and others.
+fn least_from<'a>(first: &'a Spot, others: &[&'a Spot]) -> &'a Spot
     ensures { as_spot result.now ≡ region.least_from (as_spot first.now) (held others.now) }
 {
     let mut best = first;
@@ -26,14 +36,21 @@ pub(crate) fn least<'a>(first: &'a Spot, others: &[&'a Spot]) -> &'a Spot
     best
 }
 
+/// Whether a constant is another with so many bytes more.
+fn ends_at(begin: i64, size: u16, end: i64) -> bool
+    ensures { result ≡ region.same_constant end (begin +ℤ pos size) }
+{
+    match begin.checked_add(i64::from(size)) {
+        Some(sum) => end <= sum && sum <= end,
+        None => false,
+    }
+}
+
 /// Whether the second store begins where the first ends.
 fn follows(a: &Spot, b: &Spot) -> bool
     ensures { result ≡ region.follows (as_spot a.now) (as_spot b.now) }
 {
-    match a.form.constant.checked_add(i64::from(a.size)) {
-        Some(end) => b.form.constant <= end && end <= b.form.constant,
-        None => false,
-    }
+    ends_at(a.form.constant, a.size, b.form.constant)
 }
 
 /// The first that follows a store.

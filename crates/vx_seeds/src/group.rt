@@ -2,10 +2,10 @@
 //!
 //! `split` is the entry point. Want of memory is its only failure.
 
-ghost use Rattle.std.specs.Prelude.{◌≡◌, IfOk, OnOk, not, cond, [], ◌∷◌, ◌++◌};
+ghost use Rattle.std.specs.Prelude.{◌≡◌, IfOk, not, option_map};
 ghost use Rattle.vx_view.specs.Conflicts.{same_root, same_symbol};
 ghost use Rattle.vx_serial.specs.Regions.{is_alike, those};
-ghost use Rattle.vx_seeds.specs.Spots.{as_spot, at, held};
+ghost use Rattle.vx_seeds.specs.Spots.{as_spot, at, held, head};
 
 use crate::spot::Spot;
 use ir_types::{Id, Opd, OutOfMemory};
@@ -41,6 +41,16 @@ fn is_alike(a: &Spot, b: &Spot) -> bool
     same_root(&a.form.root, &b.form.root)
         && same_symbol(a.form.symbol, b.form.symbol)
         && a.size == b.size
+}
+
+/// The first of some stores.
+pub(crate) fn first<'a>(spots: &[&'a Spot]) -> Option<&'a Spot>
+    ensures { option_map at result ≡ head (held spots.now) }
+{
+    match spots {
+        [first, ..] => Some(*first),
+        [] => None,
+    }
 }
 
 /// Those that are of a store's group.

@@ -3,9 +3,11 @@
 //! `regions` is the one entry point. Want of memory is the only failure.
 #![tactic(auto)]
 
+mod block;
 mod chain;
 mod group;
 mod index;
 mod known;
+mod order;
 mod piece;
 mod spot;

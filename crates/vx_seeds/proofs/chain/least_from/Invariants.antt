@@ -1,7 +1,7 @@
 use Rattle.std.proofs.Common.{◌≡◌, ◌++◌, not, length, option_map, List}
 use Rattle.vx_serial.specs.Regions as region
 use Rattle.vx_seeds.specs.Spots.{as_spot, at, held}
-use Rattle.vx_seeds.proofs.chain.least.Given as goal
+use Rattle.vx_seeds.proofs.chain.least_from.Given as goal
 
 abbrev pub invariant-loop-left : goal.invariant-loop-left
 invariant-loop-left l = region.least_from (as_spot l.best) (held l.left) ≡ region.least_from (as_spot l.first) (held l.others)
