@@ -1,8 +1,10 @@
 -- One step of a group, of the groups, and of the order.
-use Rattle.std.proofs.Common.{◌≡◌, refl, sym, ap, ◌∙◌, ℕ, zero, suc, ◌-◌, ◌<◌, Bool, true, false, not, ◌||◌, cond, Option, None, Some, List, [], ◌∷◌, ◌++◌, length, Bor, ⊤}
+use Rattle.std.proofs.Common.{◌≡◌, refl, sym, ap, ◌∙◌, ℕ, zero, suc, ◌-◌, ◌<◌, Bool, true, false, not, ◌||◌, cond, Option, None, Some, List, [], ◌∷◌, ◌++◌, length, arith, Bor}
+use Rattle.std.specs.Prelude.{⊤}
 use Rattle.std.specs.Option.{option_copied, is_some}
 use Rattle.std.specs.List.{list_any}
 use Rattle.std.proofs.lemmas.List.{append_assoc}
+use Rattle.std.proofs.lemmas.List.Folds.{list_any-append}
 use Rattle.ir_types.specs.declared.id.Id.{Id}
 use Rattle.ir_types.specs.declared.id_table.IdTable.{IdTable}
 use Rattle.ir_types.specs.Available.{same_id}
@@ -18,8 +20,7 @@ some_is : {A : Type 0} {a b : A} → Some a ≡ Some b → a ≡ b
 some_is e = cc
 
 pub more : (n : ℕ) → 0 < n → suc (n - 1) ≡ n
-more zero lt = absurd cc
-more (suc n) lt = refl
+more n lt = omega arith
 
 -- the regions of a group begin with those of a chain
 pub chain_goes : (width n : ℕ) (ss : List Spot) (a : Spot) → least_of ss ≡ Some a →

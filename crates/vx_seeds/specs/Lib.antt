@@ -2,3 +2,4 @@
 pub mod Known
 pub mod Spots
 pub mod Passed
+pub mod Reached

@@ -5,9 +5,11 @@
 
 mod block;
 mod chain;
+mod graph;
 mod group;
 mod index;
 mod known;
 mod order;
 mod piece;
+mod reached;
 mod spot;
