@@ -2,3 +2,4 @@ pub mod Answering
 pub mod Standing
 pub mod Chains
 pub mod Blocks
+pub mod Reaching

@@ -4,7 +4,7 @@
 use Rattle.std.specs.Prelude.{◌≡◌, ℕ, ◌<◌, Bool, true, false, nat_eq, List, slice_index_or, length}
 use Rattle.std.specs.List.{list_any, list_all}
 use Rattle.ir_types.specs.Walks.{targets_at}
-use Rattle.vx_serial.specs.Regions.{reached_in}
+use Rattle.vx_serial.specs.Regions.{reached_in, is_reached}
 
 -- each marked block passes a test
 abbrev pub Marks : (ℕ → Bool) → List Bool → Type 0
@@ -13,7 +13,7 @@ Marks p marks = (x : ℕ) → slice_index_or marks x false ≡ true → p x ≡ 
 -- and each that was found does
 pub record Holds (p : ℕ → Bool) (marks : List Bool) (found : List ℕ) : Type 0 where
   pub marked : Marks p marks
-  pub found : list_all p found ≡ true
+  pub each : list_all p found ≡ true
 
 -- edges lead from blocks that pass a test to blocks that pass another
 abbrev pub Leads : List (List ℕ) → (ℕ → Bool) → (ℕ → Bool) → Type 0
@@ -31,3 +31,7 @@ is_marked marks x = slice_index_or marks x true
 pub record IsClosed (graph : List (List ℕ)) (marks : List Bool) : Type 0 where
   pub entry : is_marked marks 0 ≡ true
   pub edges : Leads graph (is_marked marks) (is_marked marks)
+
+-- a block is marked exactly where it is reached
+abbrev pub AreReached : List (List ℕ) → List Bool → Type 0
+AreReached graph marks = (b : ℕ) → b < length graph → slice_index_or marks b false ≡ is_reached graph b

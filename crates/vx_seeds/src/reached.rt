@@ -8,7 +8,7 @@ ghost use Rattle.std.specs.Prelude.{◌≡◌, ◌<◌, ℕ, Bool, true, false, 
 ghost use Rattle.std.specs.List.{list_all};
 ghost use Rattle.vx_serial.specs.Regions as region;
 ghost use Rattle.ir_types.specs.Walks.{targets_at};
-ghost use Rattle.vx_seeds.specs.Reached.{Marks, Holds, Leads, in_round, is_marked, IsClosed};
+ghost use Rattle.vx_seeds.specs.Reached.{Marks, Holds, Leads, in_round, is_marked, IsClosed, AreReached};
 
 use ir_types::{Numbers, OutOfMemory};
 use std::alloc::{AllocError, Global};
@@ -63,10 +63,89 @@ fn round(
     ensures len { length marks.new.items ≡ length marks.old.items }
 {
     let mut found = Vec::new(alloc);
-    let mut left = blocks;
-    while let [block, more @ ..] = left {
+    for block in blocks {
         spread(targets(graph, *block as usize), marks, &mut found)?;
-        left = more;
     }
     Ok(found)
+}
+
+/// So many blocks, none of which is marked.
+fn unmarked(alloc: Global, len: usize) -> Result<Vec<bool>, OutOfMemory>
+    ensures none { IfOk result (λ marks. (x : ℕ) → slice_index_or marks.items x false ≡ false) }
+    ensures len { IfOk result (λ marks. length marks.items ≡ len) }
+{
+    let mut marks = Vec::with_capacity(alloc, len)?;
+    while marks.len() < len {
+        marks.push(false)?;
+    }
+    Ok(marks)
+}
+
+/// The marks when the search has gone as many rounds as there are blocks.
+fn search(alloc: Global, graph: &[Numbers]) -> Result<Vec<bool>, OutOfMemory>
+    ensures is { IfOk result (λ marks. Marks (in_round graph.now (length graph.now)) marks.items) }
+    ensures len { IfOk result (λ marks. length marks.items ≡ length graph.now) }
+{
+    let mut marks = unmarked(alloc, graph.len())?;
+    let mut found = Vec::new(alloc);
+    mark(0, &mut marks, &mut found)?;
+    let mut rounds = 0;
+    while rounds < graph.len() {
+        found = round(alloc, graph, &found, &mut marks)?;
+        rounds += 1;
+    }
+    Ok(marks)
+}
+
+/// Whether a block is marked; what is no block counts as marked.
+fn is_marked(marks: &[bool], number: usize) -> bool
+    ensures { result ≡ is_marked marks.now number }
+{
+    match marks.get(number) {
+        Some(marked) => *marked,
+        None => true,
+    }
+}
+
+/// Whether all targets are marked.
+fn all_marked(marks: &[bool], targets: &[u32]) -> bool
+    ensures { result ≡ list_all (is_marked marks.now) targets.now }
+{
+    let mut left = targets;
+    while let [target, more @ ..] = left {
+        if !is_marked(marks, *target as usize) {
+            return false;
+        }
+        left = more;
+    }
+    true
+}
+
+/// Whether the entry is marked and edges lead from marked blocks to marked ones.
+fn is_closed(graph: &[Numbers], marks: &[bool]) -> bool
+    ensures { result ≡ true → IsClosed graph.now marks.now }
+{
+    if !is_marked(marks, 0) {
+        return false;
+    }
+    let mut number = 0;
+    while number < graph.len() {
+        if is_marked(marks, number) && !all_marked(marks, targets(graph, number)) {
+            return false;
+        }
+        number += 1;
+    }
+    true
+}
+
+/// For each block whether a walk from the entry reaches it.
+pub(crate) fn reached(alloc: Global, graph: &[Numbers]) -> Result<Vec<bool>, OutOfMemory>
+    ensures { IfOk result (λ marks. AreReached graph.now marks.items) }
+{
+    let marks = search(alloc, graph)?;
+    if is_closed(graph, &marks) {
+        Ok(marks)
+    } else {
+        Err(AllocError)
+    }
 }
