@@ -3,3 +3,4 @@ pub mod Standing
 pub mod Chains
 pub mod Blocks
 pub mod Reaching
+pub mod Modules

@@ -9,7 +9,10 @@ mod graph;
 mod group;
 mod index;
 mod known;
+mod module;
 mod order;
 mod piece;
 mod reached;
 mod spot;
+
+pub use module::{Seeds, regions};

@@ -10,7 +10,7 @@ loop-block-preserved c =
     record {
       holds = λ p q l a m.
           c.in_ok-spread.ensures.holds q
-          (ap (list_all q) c.targets.ensures ∙ l c.block-item.result (ap p c.block-item.is ∙ all_at p blocks k c.block-item.result c.loop-block-test.true a))
+          (ap (list_all q) c.targets.ensures ∙ l _ (all_at p blocks k _ c.loop-block-test.true a))
           (c.loop-block.invariant.holds p q l a m);
       len = c.spread.ensures.len ∙ c.loop-block.invariant.len;
     }
