@@ -2,7 +2,10 @@
 //!
 //! Want of memory is the only failure, and what a module of more than 2^32 functions or blocks answers.
 
-ghost use Rattle.std.specs.Prelude.{◌≡◌, ◌++◌, Some, false, IfOk, OnOk, slice_get, slice_index_or};
+ghost use Rattle.ir_types.specs.declared.func.Func.{Func};
+ghost use Rattle.ir_types.specs.declared.module.Item.{Item};
+ghost use Rattle.ir_types.specs.declared.module.Item.TheVariants.{Func as FuncItem};
+ghost use Rattle.std.specs.Prelude.{◌≡◌, List, ◌∷◌, drop, ◌++◌, Some, false, IfOk, OnOk, slice_get, slice_index_or};
 ghost use Rattle.ir_types.specs.Available.{graph_of};
 ghost use Rattle.ir_types.specs.Formed.{IsFormed};
 ghost use Rattle.vx_view.specs.Answers.{funcs_of};
@@ -101,6 +104,31 @@ fn is_marked(marks: &[bool], number: u32) -> bool
     }
 }
 
+/// Adds the regions of an item, and gives the number of the next function.
+fn add_item(
+    alloc: Global,
+    width: u32,
+    index: &mut Index<'_>,
+    number: u32,
+    item: &Item,
+    seeds: &mut Seeds,
+) -> Result<u32, OutOfMemory>
+    requires formed { IsFormed index.old }
+    requires there { (f : Func) → item.now ≡ FuncItem f → slice_get (funcs_of index.old.items) number ≡ Some f }
+    ensures is { IfOk result (λ more. (items : List Item) → seeds.new.items ++ region.regions_of width more (funcs_of items) ≡ seeds.old.items ++ region.regions_of width number (funcs_of (item.now ∷ items))) }
+    ensures left { IfOk result (λ more. (items : List Item) (fs : List Func) → drop number fs ≡ funcs_of (item.now ∷ items) → drop more fs ≡ funcs_of items) }
+    ensures same { index.new ≡ index.old }
+{
+    match item {
+        Item::Func(func) => {
+            add_func(alloc, width, index, number, func, seeds)?;
+            let more = next(number)?;
+            Ok(more)
+        }
+        _ => Ok(number),
+    }
+}
+
 /// Adds the regions of all functions.
 fn add_items(
     alloc: Global,
@@ -115,10 +143,7 @@ fn add_items(
 {
     let mut number: u32 = 0;
     for item in items {
-        if let Item::Func(func) = item {
-            add_func(alloc, width, index, number, func, seeds)?;
-            number = next(number)?;
-        }
+        number = add_item(alloc, width, index, number, item, seeds)?;
     }
     Ok(())
 }
