@@ -3,7 +3,6 @@ use Rattle.std.proofs.Common.{◌≡◌, refl, sym, ap, ◌∙◌, ℕ, suc, Boo
 use Rattle.std.specs.Option.{option_copied, is_some}
 use Rattle.ir_types.proofs.Among.{same_is}
 use Rattle.ir_types.specs.declared.id.Id.{Id}
-use Rattle.ir_types.specs.declared.id.Place.{Place}
 use Rattle.ir_types.specs.declared.inst.Inst.{Inst}
 use Rattle.ir_types.specs.declared.func.Param.{Param}
 use Rattle.ir_types.specs.declared.func.Block.{Block}
@@ -15,7 +14,7 @@ use Rattle.ir_types.specs.declared.id_table.IdTable.{IdTable}
 use Rattle.vx_view.specs.declared.question.Question.TheVariants as ask
 use Rattle.vx_view.specs.declared.answer.Answer.{Answer}
 use Rattle.vx_view.specs.declared.answer.Answer.TheVariants as says
-use Rattle.vx_view.specs.Answers.{funcs_of, answer, param_in, param_of, find, either, Standing, standing, standing_in, standing_of, of_inst, of_value}
+use Rattle.vx_view.specs.Answers.{funcs_of, answer, param_in, param_of, find, either, Standing, standing, standing_in, standing_of, of_value}
 use Rattle.vx_seeds.specs.declared.known.Known.{Known}
 use Rattle.vx_seeds.specs.Known.{told, or_answer, params_then, insts_then, blocks_then, all_params_then, funcs_then}
 

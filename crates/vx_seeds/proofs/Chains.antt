@@ -1,5 +1,5 @@
 -- One step of a chain, and of its pieces.
-use Rattle.std.proofs.Common.{◌≡◌, refl, sym, ap, ◌∙◌, ℕ, zero, suc, ◌-◌, ◌<◌, min, Bool, true, false, cond, Option, None, Some, List, [], ◌∷◌, ◌++◌, length, take, drop, arith}
+use Rattle.std.proofs.Common.{◌≡◌, refl, sym, ap, ◌∙◌, ℕ, zero, suc, min, Some, List, [], ◌∷◌, ◌++◌, length, take, drop}
 use Rattle.std.proofs.lemmas.List.{append_assoc}
 use Rattle.ir_types.specs.declared.id.Id.{Id}
 use Rattle.vx_serial.specs.Regions.{Spot, first_of, follows, on, chain_after, power_in, taken_off, pieces}

@@ -1,5 +1,5 @@
 -- What is marked is reached, and what is reached is marked.
-use Rattle.std.proofs.Common.{◌≡◌, refl, sym, ap, ◌∙◌, ℕ, zero, suc, ◌<◌, Bool, true, false, ◌&&◌, ◌||◌, nat_eq, List, [], ◌∷◌, ◌++◌, length, slice_index_or, arith}
+use Rattle.std.proofs.Common.{◌≡◌, refl, sym, ap, ◌∙◌, ℕ, zero, suc, ◌<◌, Bool, true, false, ◌&&◌, ◌||◌, nat_eq, List, [], ◌∷◌, length, slice_index_or, arith}
 use Rattle.std.specs.Prelude.{get_or}
 use Rattle.std.specs.List.{list_any, list_all}
 use Rattle.std.proofs.lemmas.Bool.Decides.{nat_tests}
@@ -91,7 +91,7 @@ module _ (graph : List (List ℕ)) where
   closed_round marks c (suc n) =
       list_all-append (is_marked marks) (reached_in n graph) (targets_of_all graph (reached_in n graph))
       ∙ both_true (list_all (is_marked marks) (reached_in n graph)) (list_all (is_marked marks) (targets_of_all graph (reached_in n graph)))
-        (closed_round marks c n) (all_targets (is_marked marks) (is_marked marks) c.edges (reached_in n graph) (closed_round marks c n))
+      (closed_round marks c n) (all_targets (is_marked marks) (is_marked marks) c.edges (reached_in n graph) (closed_round marks c n))
 
   inside : (marks : List Bool) (b : ℕ) → b < length marks → slice_index_or marks b true ≡ slice_index_or marks b false
   inside [] b lt = absurd (omega arith)

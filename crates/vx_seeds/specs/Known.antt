@@ -1,7 +1,7 @@
 -- What a table of ids tells of a module: of each id the answer to the question for it.
 --
 -- The scans have what comes after them as an argument, so that one scan goes on where another ends.
-use Rattle.std.specs.Prelude.{◌≡◌, ℕ, suc, Bool, cond, Option, None, Some, List, [], ◌∷◌}
+use Rattle.std.specs.Prelude.{◌≡◌, ℕ, suc, cond, Option, None, Some, List, [], ◌∷◌}
 use Rattle.ir_types.specs.declared.id.Id.{Id}
 use Rattle.ir_types.specs.declared.id.Place.{Place}
 use Rattle.ir_types.specs.declared.inst.Inst.{Inst}
@@ -13,7 +13,7 @@ use Rattle.ir_types.specs.IdTable.{found}
 use Rattle.vx_view.specs.declared.question.Question.TheVariants as ask
 use Rattle.vx_view.specs.declared.answer.Answer.{Answer}
 use Rattle.vx_view.specs.declared.answer.Answer.TheVariants as says
-use Rattle.vx_view.specs.Answers.{funcs_of, answer}
+use Rattle.vx_view.specs.Answers.{answer}
 use Rattle.vx_seeds.specs.declared.known.Known.{Known}
 use Rattle.vx_seeds.specs.declared.known.Known.TheVariants as known
 use Rattle.vx_seeds.specs.declared.known.Table.{Table}

@@ -1,7 +1,7 @@
 use Rattle.std.proofs.Common.{◌≡◌, ◌∙◌, sym, ap, option_map, not, List, ◌++◌}
 use Rattle.std.proofs.lemmas.List.{append_assoc}
 use Rattle.vx_serial.specs.Regions as region
-use Rattle.vx_seeds.specs.Spots.{as_spot, at, held}
+use Rattle.vx_seeds.specs.Spots.{at, held}
 use Rattle.vx_seeds.proofs.Blocks.{chain_goes}
 use Rattle.vx_seeds.proofs.block.add_chain.Goals as goal
 

@@ -2,7 +2,6 @@ use Rattle.std.proofs.Common.{◌≡◌, length}
 use Rattle.ir_types.specs.declared.id.Id.{Id}
 use Rattle.ir_types.specs.IdTable.{found}
 use Rattle.vx_view.specs.declared.answer.Answer.{Answer}
-use Rattle.vx_view.specs.Answers.{funcs_of}
 use Rattle.vx_seeds.specs.Known.{or_answer, params_then}
 use Rattle.vx_seeds.proofs.known.add_params.Given as goal
 

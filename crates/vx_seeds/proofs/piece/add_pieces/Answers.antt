@@ -14,4 +14,4 @@ loop-bound-preserved c =
     ∙ ap (λ p. (before ++ p ∷ []) ++ region.pieces (n - 1) c.args.lanes c.split_at.result.1.now) (c.in_ok-from_slice.ensures ∙ c.split_at.ensures.front)
     ∙ ap (λ r. (before ++ take size left ∷ []) ++ region.pieces (n - 1) c.args.lanes r) c.split_at.ensures.back
     ∙ piece_step before (n - 1) c.args.lanes size left _ (c.power_in-size.ensures ∙ ap region.power_in c.min.ensures) c.if-size-eq0.false
-        (ap (λ k. before ++ region.pieces k c.args.lanes left) (more n c.loop-bound-test.true) ∙ c.loop-bound.invariant)
+    (ap (λ k. before ++ region.pieces k c.args.lanes left) (more n c.loop-bound-test.true) ∙ c.loop-bound.invariant)

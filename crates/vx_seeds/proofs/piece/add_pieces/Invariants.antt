@@ -1,6 +1,5 @@
-use Rattle.std.proofs.Common.{◌≡◌, ◌++◌, not, length, option_map, List}
+use Rattle.std.proofs.Common.{◌≡◌, ◌++◌, length}
 use Rattle.vx_serial.specs.Regions as region
-use Rattle.vx_seeds.specs.Spots.{as_spot, at, held}
 use Rattle.vx_seeds.proofs.piece.add_pieces.Given as goal
 
 abbrev pub invariant-loop-bound : goal.invariant-loop-bound

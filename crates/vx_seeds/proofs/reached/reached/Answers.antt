@@ -1,4 +1,4 @@
-use Rattle.std.proofs.Common.{◌≡◌, ◌∙◌, sym, subst, true}
+use Rattle.std.proofs.Common.{subst}
 use Rattle.vx_seeds.specs.Reached.{IsClosed}
 use Rattle.vx_seeds.proofs.Reaching.{are_reached}
 use Rattle.vx_seeds.proofs.reached.reached.Goals as goal

@@ -1,4 +1,4 @@
-use Rattle.std.proofs.Common.{◌≡◌, ◌∙◌, sym, ap, true}
+use Rattle.std.proofs.Common.{◌∙◌, ap}
 use Rattle.std.specs.List.{list_all}
 use Rattle.vx_seeds.proofs.Reaching.{all_at}
 use Rattle.vx_seeds.proofs.reached.round.Goals as goal

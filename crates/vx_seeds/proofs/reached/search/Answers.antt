@@ -1,4 +1,4 @@
-use Rattle.std.proofs.Common.{◌≡◌, ◌∙◌, refl, ap, subst, suc, ◌+◌, arith, true}
+use Rattle.std.proofs.Common.{◌≡◌, ◌∙◌, refl, ap, subst, suc, ◌+◌, arith}
 use Rattle.std.specs.List.{list_all}
 use Rattle.vx_seeds.specs.Reached.{Holds, in_round}
 use Rattle.vx_seeds.proofs.Reaching.{begun, round_leads, marks_keep}

@@ -3,7 +3,7 @@ use Rattle.std.proofs.lemmas.Grind.{take_at_read}
 use Rattle.ir_types.specs.declared.inst.Inst.{Inst}
 use Rattle.vx_view.specs.Blocks.{block_at}
 use Rattle.vx_serial.specs.Regions as region
-use Rattle.vx_seeds.specs.Spots.{as_spots, spot_in, IsThere}
+use Rattle.vx_seeds.specs.Spots.{spot_in, IsThere}
 use Rattle.vx_seeds.proofs.Standing.{there_at, spots_more}
 use Rattle.vx_seeds.proofs.spot.spots.Goals as goal
 
@@ -12,7 +12,7 @@ add-requires-clause-there c =
     let block = c.args.block.now in
     let k = c.loop-inst.inst-index in
     let more : take (k + 1) block ≡ take k block ++ c.inst-item.result ∷ [] =
-        (take_at_read block k c.inst-item.result c.loop-inst-test.true).1 ∙ ap (λ p. take k block ++ p ∷ []) (sym c.inst-item.is) in
+    (take_at_read block k c.inst-item.result c.loop-inst-test.true).1 ∙ ap (λ p. take k block ++ p ∷ []) (sym c.inst-item.is) in
     let here : block_at c.loop-inst.index c.args.place ≡ block = ap (λ m. block_at m c.args.place) c.loop-inst.invariant.same ∙ c.requires.there in
     subst (IsThere c.inst-item.result.id) (sym here) (there_at block k c.inst-item.result more)
 
@@ -21,7 +21,7 @@ loop-inst-preserved c =
     let block = c.args.block.now in
     let k = c.loop-inst.inst-index in
     let more : take (k + 1) block ≡ take k block ++ c.inst-item.result ∷ [] =
-        (take_at_read block k c.inst-item.result c.loop-inst-test.true).1 ∙ ap (λ p. take k block ++ p ∷ []) (sym c.inst-item.is) in
+    (take_at_read block k c.inst-item.result c.loop-inst-test.true).1 ∙ ap (λ p. take k block ++ p ∷ []) (sym c.inst-item.is) in
     let here : block_at c.loop-inst.index c.args.place ≡ block = ap (λ m. block_at m c.args.place) c.loop-inst.invariant.same ∙ c.requires.there in
     record {
       done =

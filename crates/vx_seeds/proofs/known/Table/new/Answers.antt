@@ -1,7 +1,4 @@
-use Rattle.std.proofs.Common.{◌≡◌, ◌∙◌, ap, sym, None}
-use Rattle.ir_types.specs.declared.id.Id.{Id}
-use Rattle.ir_types.specs.IdTable.{found}
-use Rattle.vx_view.specs.declared.answer.Answer.{Answer}
+use Rattle.std.proofs.Common.{◌∙◌, ap}
 use Rattle.vx_view.specs.declared.answer.Answer.TheVariants as says
 use Rattle.vx_view.specs.Answers.{funcs_of}
 use Rattle.vx_seeds.specs.Known.{or_answer, all_params_then, funcs_then}
