@@ -1,7 +1,7 @@
 -- What a table of ids tells of a module: of each id the answer to the question for it.
 --
 -- The scans have what comes after them as an argument, so that one scan goes on where another ends.
-use Rattle.std.specs.Prelude.{◌≡◌, ℕ, suc, cond, Option, None, Some, List, [], ◌∷◌}
+use Rattle.std.specs.Prelude.{◌≡◌, refl, false, ℕ, suc, cond, Option, None, Some, List, [], ◌∷◌}
 use Rattle.ir_types.specs.declared.id.Id.{Id}
 use Rattle.ir_types.specs.declared.id.Place.{Place}
 use Rattle.ir_types.specs.declared.inst.Inst.{Inst}
@@ -13,7 +13,8 @@ use Rattle.ir_types.specs.IdTable.{found}
 use Rattle.vx_view.specs.declared.question.Question.TheVariants as ask
 use Rattle.vx_view.specs.declared.answer.Answer.{Answer}
 use Rattle.vx_view.specs.declared.answer.Answer.TheVariants as says
-use Rattle.vx_view.specs.Answers.{answer}
+use Rattle.ir_types.specs.declared.ty.Ty.TheVariants.{Int}
+use Rattle.vx_view.specs.Answers.{funcs_of, answer, doubles, value}
 use Rattle.vx_seeds.specs.declared.known.Known.{Known}
 use Rattle.vx_seeds.specs.declared.known.Known.TheVariants as known
 use Rattle.vx_seeds.specs.declared.known.Table.{Table}
@@ -53,3 +54,11 @@ funcs_then q func (f ∷ fs) a = blocks_then q func 0 f.blocks (funcs_then q (su
 -- a table has the answer for each id
 abbrev pub IsTable : Table → Type 0
 IsTable t = (q : Id) → or_answer (found t.known q) says.Nothing ≡ answer t.asked.now (ask.Inst q)
+
+-- ---- worked examples: a parameter, and an id that nothing has
+
+a_parameter : all_params_then (value 0) (funcs_of doubles.items) says.Nothing ≡ says.Param false (Int 8)
+a_parameter = refl
+
+no_instruction : funcs_then (value 7) 0 (funcs_of doubles.items) says.Nothing ≡ says.Nothing
+no_instruction = refl

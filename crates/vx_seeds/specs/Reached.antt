@@ -1,7 +1,7 @@
 -- What the search for reached blocks keeps: marks, and the blocks from which it goes on.
 --
 -- A test of block numbers is any property that is kept along edges; the search marks and finds blocks of which it holds.
-use Rattle.std.specs.Prelude.{◌≡◌, ℕ, ◌<◌, Bool, true, false, nat_eq, List, slice_index_or, length}
+use Rattle.std.specs.Prelude.{◌≡◌, refl, [], ◌∷◌, ℕ, ◌<◌, Bool, true, false, nat_eq, List, slice_index_or, length}
 use Rattle.std.specs.List.{list_any, list_all}
 use Rattle.ir_types.specs.Walks.{targets_at}
 use Rattle.vx_serial.specs.Regions.{reached_in, is_reached}
@@ -35,3 +35,11 @@ pub record IsClosed (graph : List (List ℕ)) (marks : List Bool) : Type 0 where
 -- a block is marked exactly where it is reached
 abbrev pub AreReached : List (List ℕ) → List Bool → Type 0
 AreReached graph marks = (b : ℕ) → b < length graph → slice_index_or marks b false ≡ is_reached graph b
+
+-- ---- a worked example: from block 0 to 1, which one edge leads to and none does not
+
+one_edge : in_round ((1 ∷ []) ∷ [] ∷ []) 1 1 ≡ true
+one_edge = refl
+
+no_edge : in_round ((1 ∷ []) ∷ [] ∷ []) 0 1 ≡ false
+no_edge = refl
