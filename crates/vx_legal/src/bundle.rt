@@ -2,9 +2,10 @@
 //!
 //! Nothing here fails.
 
-ghost use Rattle.std.specs.Prelude.{◌≡◌, Bool, Some, None, map, length, ◌≤◌, ◌^◌, ◌<◌};
+ghost use Rattle.std.specs.Prelude.{◌≡◌};
+ghost use Rattle.ir_types.specs.Available.{same_id};
 ghost use Rattle.std.specs.List.{list_all, list_any};
-ghost use Rattle.vx_serial.specs.Legal.{is_literal, same_value, same_lanes, is_widened, reused, is_taken, is_among, are_repeated};
+ghost use Rattle.vx_serial.specs.Legal.{is_literal, same_value, same_lanes, is_widened, reused, is_taken, are_repeated};
 ghost use Rattle.ir_types.specs.declared.inst.Inst.{Inst};
 
 use ir_types::{Id, Inst, Opd};
@@ -121,7 +122,7 @@ pub fn reused(tree: &[Node], lanes: &[Opd]) -> Option<usize>
 
 /// Whether an instruction is one of these, by its id.
 fn is_among(insts: &[Inst], id: Id) -> bool
-    ensures { (i : Inst) → i.id ≡ id → result ≡ is_among insts.now i }
+    ensures { result ≡ list_any (λ (j : Inst). same_id j.id id) insts.now }
 {
     let mut left = insts;
     while let [first, more @ ..] = left {

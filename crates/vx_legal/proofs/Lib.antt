@@ -1,0 +1,2 @@
+-- The rules but for the order, and with it.
+pub mod Telling
