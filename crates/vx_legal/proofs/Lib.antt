@@ -1,2 +1,3 @@
 -- The rules but for the order, and with it.
 pub mod Telling
+pub mod Finding

@@ -3,12 +3,10 @@
 //! Nothing here fails.
 
 ghost use Rattle.std.specs.Prelude.{◌≡◌};
-ghost use Rattle.ir_types.specs.Available.{same_id};
 ghost use Rattle.std.specs.List.{list_all, list_any};
-ghost use Rattle.vx_serial.specs.Legal.{is_literal, same_value, same_lanes, is_widened, reused, is_taken, are_repeated};
-ghost use Rattle.ir_types.specs.declared.inst.Inst.{Inst};
+ghost use Rattle.vx_serial.specs.Legal.{is_literal, same_value, same_lanes, is_widened, reused, is_taken};
 
-use ir_types::{Id, Inst, Opd};
+use ir_types::Opd;
 use vx_serial::{How, Node};
 
 /// Whether an operand is a literal.
@@ -118,32 +116,4 @@ pub fn reused(tree: &[Node], lanes: &[Opd]) -> Option<usize>
         number += 1;
     }
     None
-}
-
-/// Whether an instruction is one of these, by its id.
-fn is_among(insts: &[Inst], id: Id) -> bool
-    ensures { result ≡ list_any (λ (j : Inst). same_id j.id id) insts.now }
-{
-    let mut left = insts;
-    while let [first, more @ ..] = left {
-        if first.id.same(id) {
-            return true;
-        }
-        left = more;
-    }
-    false
-}
-
-/// Whether an instruction is twice among these.
-pub fn are_repeated(insts: &[Inst]) -> bool
-    ensures { result ≡ are_repeated insts.now }
-{
-    let mut left = insts;
-    while let [first, more @ ..] = left {
-        if is_among(more, first.id) {
-            return true;
-        }
-        left = more;
-    }
-    false
 }
