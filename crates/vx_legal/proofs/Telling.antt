@@ -11,7 +11,7 @@ use Rattle.vx_serial.specs.declared.node.Node.{Node}
 use Rattle.vx_serial.specs.declared.node.How.TheVariants as had
 use Rattle.vx_serial.specs.Legal as serial
 use Rattle.vx_legal.specs.Legality as told
-use Rattle.vx_legal.specs.declared.legality.Legality.TheVariants.{Reuse, Ident, Pack, Fits}
+use Rattle.vx_legal.specs.declared.legality.Legality.TheVariants.{Reuse, Ident}
 
 last_rule : (cycle : Bool) → (rules : List (Bool × Cause)) → serial.packed (serial.first_cause (rules ++ (cycle, Cycle) ∷ [])) ≡ told.as_how cycle (told.packed (serial.first_cause rules))
 last_rule true [] = refl

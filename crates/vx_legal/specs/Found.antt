@@ -1,5 +1,5 @@
 -- The rules for what was answered for lanes, lane by lane: the instruction of the block that each one is, if it is one.
-use Rattle.std.specs.Prelude.{◌≡◌, refl, Bool, true, false, ◌||◌, Option, None, Some, List, [], ◌∷◌, map}
+use Rattle.std.specs.Prelude.{◌≡◌, refl, Bool, true, Option, None, Some, List, [], ◌∷◌, map}
 use Rattle.std.specs.List.{list_any}
 use Rattle.ir_types.specs.declared.id.Id.{Id}
 use Rattle.ir_types.specs.declared.ty.Ty.{Ty}

@@ -15,7 +15,7 @@ use Rattle.vx_serial.specs.declared.node.How.{How}
 use Rattle.vx_serial.specs.declared.node.How.TheVariants as had
 use Rattle.vx_serial.specs.declared.node.Node.{Node}
 use Rattle.vx_serial.specs.Window.{id}
-use Rattle.vx_serial.specs.Legal.{reused, identity, early_causes, first_cause, insts_of, legal, has_cycle, adding, sums_of}
+use Rattle.vx_serial.specs.Legal.{reused, identity, early_causes, first_cause, insts_of, adding, sums_of}
 use Rattle.vx_legal.specs.declared.legality.Legality.{Legality}
 use Rattle.vx_legal.specs.declared.legality.Legality.TheVariants.{Reuse, Ident, Pack, Fits}
 

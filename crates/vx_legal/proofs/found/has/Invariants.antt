@@ -1,8 +1,7 @@
 use Rattle.std.proofs.Common.{◌≡◌, length}
-use Rattle.std.specs.List.{list_all, list_any}
+use Rattle.std.specs.List.{list_any}
 use Rattle.ir_types.specs.Available.{same_id}
 use Rattle.ir_types.specs.declared.inst.Inst.{Inst}
-use Rattle.vx_serial.specs.Legal.{is_there, may_widen, are_repeated}
 use Rattle.vx_legal.specs.Found.{there}
 use Rattle.vx_legal.proofs.found.has.Given as goal
 
