@@ -17,4 +17,4 @@ pub use found::{all_may_widen, are_repeated, are_there};
 pub use inst::{is_kind, may_widen, same_operation};
 pub use laws::{found_lanes_are_there, legality_tells_how};
 pub use legality::Legality;
-pub use lookup::{inst_of, ty_of};
+pub use lookup::{Found, found_of, inst_of, ty_of};

@@ -10,11 +10,15 @@ ghost use Rattle.vx_view.specs.Blocks.{block_at, in_place};
 ghost use Rattle.vx_view.specs.Views.{StandsFor, IsAskable, Asks};
 ghost use Rattle.vx_addr.specs.Walks.{Names};
 ghost use Rattle.vx_serial.specs.Legal.{inst_of, ty_of};
-ghost use Rattle.vx_legal.specs.Found.{ty_answered};
+ghost use Rattle.vx_legal.specs.Found.{found_of, is_lane, ty_answered};
 
 use ir_types::{Inst, Op, Opd, OutOfMemory, Place, Ty};
-use vx_list::Equal;
+use vx_list::{Equal, Seq};
+use std::alloc::Global;
 use vx_view::{Answer, Question, View};
+
+/// What was answered for lanes: the instruction of the block that each one is.
+pub type Found = Seq<Option<Inst>>;
 
 /// The instruction that was answered, where it stands in a block.
 fn in_place(place: Place, answer: Answer) -> Option<Inst>
@@ -43,6 +47,27 @@ pub fn inst_of<V: View>(view: &mut V, place: Place, lane: &Opd) -> Result<Option
         }
         Opd::Lit(_) | Opd::Sym(_) => Ok(None),
     }
+}
+
+/// What lanes are in a block, lane by lane. It asks for each lane once.
+pub fn found_of<V: View>(
+    alloc: Global,
+    view: &mut V,
+    place: Place,
+    lanes: &[Opd],
+) -> Result<Found, OutOfMemory>
+    requires { IsAskable (V.seen view.old) }
+    ensures is { IfOk result (λ all. (m : Module) → StandsFor (V.seen view.new) m → IsFormed m → all ≡ found_of (block_at m place) lanes.now) }
+    ensures asks { Asks (λ m. Names (is_lane lanes.now)) (V.seen view.old) (V.seen view.new) }
+{
+    let mut all = Found::new(alloc);
+    let mut left = lanes;
+    while let Some((first, more)) = left.split_first() {
+        let inst = inst_of(view, place, first)?;
+        all.push(inst)?;
+        left = more;
+    }
+    Ok(all)
 }
 
 /// The type that an instruction gives.
