@@ -13,8 +13,8 @@ ghost use Rattle.vx_serial.specs.Legal.{inst_of, ty_of};
 ghost use Rattle.vx_legal.specs.Found.{found_of, is_lane, ty_answered};
 
 use ir_types::{Inst, Op, Opd, OutOfMemory, Place, Ty};
-use vx_list::{Equal, Seq};
 use std::alloc::Global;
+use vx_list::{Equal, Seq};
 use vx_view::{Answer, Question, View};
 
 /// What was answered for lanes: the instruction of the block that each one is.
