@@ -17,6 +17,7 @@ use Rattle.vx_view.specs.Answers.{funcs_of, param_in, param_of, find, found, Sta
 use Rattle.vx_view.specs.Changes.{Edit, each, edited_block, edited_item, edited, IsNeither, IsEither}
 use Rattle.sb_uses.specs.Totals.{id_times}
 use Rattle.rf_rewrite.specs.Rewritten.{in_block, in_item, with_insts}
+use Rattle.rf_rewrite.proofs.Facts.{map_append}
 
 -- all of a module but the instructions of one block
 pub record Context : Type 0 where
@@ -316,10 +317,6 @@ module _ (x : Id) (f : Edit) (only : Only x f) where
       let parts = ids_append x (param_ids g.params) (block_ids g.blocks) in
       ap (λ bs. FuncItem (func_with g bs) ∷ map (edited_item f) items) (blocks_none g.blocks (omega (arith, sum, parts, e)))
       ∙ ap (λ u. FuncItem g ∷ u) (items_none items (omega (arith, sum, e)))
-
-map_append : {A B : Type 0} (f : A → B) (xs ys : List A) → map f (xs ++ ys) ≡ map f xs ++ map f ys
-map_append f [] ys = refl
-map_append f (x ∷ xs) ys = ap (λ u. f x ∷ u) (map_append f xs ys)
 
 pub edited_plug : (c : Context) (l : List Inst) (x : Id) (f : Edit) → Only x f → around c x ≡ 0 → edited f (plug c l) ≡ plug c (each f l)
 edited_plug c l x f only e = ap (λ items. record { items = items; globals = c.globals; big_endian_line = c.big }) (

@@ -20,6 +20,7 @@ use Rattle.vx_serial.specs.Changing.{is_unused, greater, greatest_unused, other_
 use Rattle.rf_rewrite.proofs.Contexts.{Context, plug, one_of, times, ahead, past, around, place_of, some_find, found_plug, Only, each_none, edited_plug}
 use Rattle.rf_rewrite.proofs.Parts.{NoneAround, no_uses_plug, empty_both}
 use Rattle.rf_rewrite.proofs.Window.{find_id, removing_only}
+use Rattle.rf_rewrite.proofs.Facts.{some_is}
 
 -- ---- booleans
 
@@ -186,9 +187,6 @@ greatest_with m x xs u (Some y) e all = by_less (is_less_id x y) refl
       unused = u;
     }
 
-some_is : {A : Type 0} {p q : A} → Some p ≡ Some q → p ≡ q
-some_is e = cc
-
 -- what the greatest is, where there is one
 greatest_all : (m : Module) (ds : List Id) (y : Id) → greatest_unused m ds ≡ Some y → (is_id_in ds y ≡ true) × (is_unused m y ≡ true)
 greatest_all m [] y e = absurd cc
@@ -306,7 +304,7 @@ without_removed d ds (i ∷ l) h = by_test (same_id i.id d) refl (without_remove
         ap (λ b. cond b (without (other_than d ds) (each (removing_edit d) l)) (i ∷ without (other_than d ds) (each (removing_edit d) l))) (other_in d i.id ds t)
         ∙ ap (λ u. cond (is_id_in ds i.id) u (i ∷ u)) r
 
-without_none : (l : List Inst) → without [] l ≡ l
+pub without_none : (l : List Inst) → without [] l ≡ l
 without_none [] = refl
 without_none (i ∷ l) = ap (λ u. i ∷ u) (without_none l)
 
@@ -325,7 +323,7 @@ some_none (u ∷ us) e = absurd cc
 none_some : (us : List Use) → us ≡ [] → not (some us) ≡ true
 none_some us e = ap (λ vs. not (some vs)) e
 
-find_some : (y : Id) (l : List Inst) → 1 ≤ times y l → (i : Inst) × (find y l ≡ Some i)
+pub find_some : (y : Id) (l : List Inst) → 1 ≤ times y l → (i : Inst) × (find y l ≡ Some i)
 find_some y l h = by_find (find y l) refl
   where
     by_find : (o : Option Inst) → find y l ≡ o → (i : Inst) × (o ≡ Some i)

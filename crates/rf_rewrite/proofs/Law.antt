@@ -1,62 +1,51 @@
 -- The changes of a region lead to the module in which it is rewritten.
-use Rattle.std.proofs.Common.{◌≡◌, refl, sym, ap, ◌∙◌, subst, ℕ, zero, suc, ◌+◌, ◌-◌, ◌<◌, ◌≤◌, ◌⊎◌, inl, inr, Bool, true, false, not, ◌&&◌, ◌||◌, Option, None, Some, List, [], ◌∷◌, ◌++◌, map, cond, nat_eq, option_map, drop, arith, length, append_assoc}
-use Rattle.std.specs.Bool.{⊤}
+use Rattle.std.proofs.Common.{◌≡◌, refl, sym, ap, ◌∙◌, subst, ℕ, suc, ◌+◌, ◌-◌, ◌<◌, ◌≤◌, ◌⊎◌, inl, inr, Bool, true, false, ◌&&◌, ◌||◌, Option, None, Some, List, [], ◌∷◌, ◌++◌, cond, nat_eq, option_map, arith, length, append_assoc}
 use Rattle.std.specs.Prelude.{is_none}
-use Rattle.std.specs.List.{list_any, list_all}
+use Rattle.std.specs.List.{list_any}
 use Rattle.std.proofs.lemmas.Bool.Decides.{nat_tests}
 use Rattle.ir_types.specs.declared.id.Id.{Id}
-use Rattle.ir_types.specs.declared.opd.Opd.{Opd}
-use Rattle.ir_types.specs.declared.opd.Opd.TheVariants.{Val}
 use Rattle.ir_types.specs.declared.inst.Inst.{Inst}
 use Rattle.ir_types.specs.declared.module.Module.{Module}
 use Rattle.ir_types.specs.Walks.{IsReached}
 use Rattle.ir_types.specs.Available.{same_id, graph_of}
-use Rattle.ir_types.specs.Formed.{is_phi, is_terminator, IsFormed, IsFresh, IsLawful, ids_of as module_ids}
+use Rattle.ir_types.specs.Formed.{is_phi, is_terminator, IsFormed, IsFresh, ids_of as module_ids}
 use Rattle.ir_types.proofs.Formed.{Every, every_of_all}
-use Rattle.ir_types.proofs.Among.{same_is, same_itself, swapped}
+use Rattle.ir_types.proofs.Among.{same_is, same_itself}
 use Rattle.vx_view.specs.declared.change.Change.{Change}
-use Rattle.vx_view.specs.Answers.{funcs_of, find, found, after as next_after, Standing, uses_of, id_of}
+use Rattle.vx_view.specs.Answers.{funcs_of, find, found, after as next_after, uses_of, id_of}
 use Rattle.vx_view.specs.Addresses.{block_of}
-use Rattle.vx_view.specs.Changes.{applied, all_applied, Fits, AllFit}
+use Rattle.vx_view.specs.Changes.{applied, all_applied, AllFit}
 use Rattle.sb_uses.specs.Totals.{id_times}
-use Rattle.vx_serial.specs.declared.node.How.{How}
-use Rattle.vx_serial.specs.declared.node.How.TheVariants.{Widen, Reuse, Ident, Pack}
 use Rattle.vx_serial.specs.declared.node.Node.{Node}
 use Rattle.vx_serial.specs.Window.{is_member, up_to, from_member, window, order_in, order, joined}
-use Rattle.vx_serial.specs.Bundles.{AreOnce, ids_of, AreBundles}
-use Rattle.vx_serial.specs.Near.{last_of, looked_at}
-use Rattle.vx_serial.specs.Legal.{is_among, is_widened, insts_of, bundles_of}
-use Rattle.vx_serial.specs.Tree.{values_of, last_in, tree_in, tree_of}
-use Rattle.vx_serial.specs.Rewriting.{Made, start, created, is_created, is_id_in, without, joined_ids, before_member, after_inst, written, only_created, uses_value, going, Plan, new_insts, plan_of, is_wanted, rewritten_window, rewritten_by, rewritten_in, rewritten, bundle_of}
-use Rattle.vx_serial.specs.Changing.{steps, removals, not_among, then_removals, changes_by, before_next, changes_in, changes_of, changes}
+use Rattle.vx_serial.specs.Bundles.{ids_of, AreBundles}
+use Rattle.vx_serial.specs.Near.{looked_at}
+use Rattle.vx_serial.specs.Legal.{bundles_of}
+use Rattle.vx_serial.specs.Tree.{last_in, tree_in, tree_of}
+use Rattle.vx_serial.specs.Rewriting.{start, is_created, is_id_in, without, joined_ids, before_member, after_inst, written, only_created, uses_value, going, Plan, new_insts, plan_of, is_wanted, rewritten_by, rewritten_in, rewritten}
+use Rattle.vx_serial.specs.Changing.{steps, removals, not_among, before_next, changes_in, changes_of, changes}
 use Rattle.vx_serial.proofs.Places.{member_joined}
-use Rattle.rf_order.specs.Rows.{Reordered}
 use Rattle.rf_order.proofs.Windows.{orders_reordered}
-use Rattle.rf_rewrite.specs.Rewritten.{with_insts, rewritten_module, is_root_widened, Leads, ChangesLead}
-use Rattle.rf_rewrite.proofs.Contexts.{Context, plug, one_of, times, times_append, around, ahead, ids_plug, ids_sum, place_of, some_find, found_plug}
+use Rattle.rf_rewrite.specs.Rewritten.{with_insts, is_root_widened, Leads, ChangesLead}
+use Rattle.rf_rewrite.proofs.Contexts.{Context, plug, times, times_append, around, ids_plug, place_of, found_plug}
 use Rattle.rf_rewrite.proofs.Parts.{with_insts_plug, defines_found}
-use Rattle.rf_rewrite.proofs.Window.{Known, Fine, left, state, number, numbers, window_is, find_append, find_front, find_times, find_id}
-use Rattle.rf_rewrite.proofs.Gone.{uses_id, Removable, Going, Goes, all_go}
+use Rattle.rf_rewrite.proofs.Window.{Fine, numbers, window_is, find_append, find_front, find_times, find_id}
+use Rattle.rf_rewrite.proofs.Gone.{uses_id, Removable, Goes, all_go, find_some}
 use Rattle.rf_rewrite.proofs.Taking.{Takes, takes_fine, takes_without}
-use Rattle.rf_rewrite.proofs.Making.{every_map, Ready, Kind, Adds, Writes, Member, IsGroup, written_is, written_wants}
-use Rattle.rf_rewrite.proofs.Alike.{Alike, written_alike}
-use Rattle.rf_rewrite.proofs.Groups.{block_cut, has_of, has_member, member_from, any_times, once_times, reordered_times, HasFirst, order_groups, joined_is}
-use Rattle.rf_rewrite.proofs.Trees.{any_append, LaneOk, LanesOk, NodeOk, TreeOk, tree_ok, FirstSome, firsts, alone, IsLane, lanes_are, nodes_known}
-use Rattle.rf_rewrite.proofs.Blocks.{Here, here_of, func_in, times_few, block_formed, operands_known, fresh_times, ends_front, ends_after, phis_after}
+use Rattle.rf_rewrite.proofs.Making.{every_map, Ready, Kind, Writes, Member, IsGroup, written_is, written_wants}
+use Rattle.rf_rewrite.proofs.Alike.{written_alike}
+use Rattle.rf_rewrite.proofs.Groups.{block_cut, has_of, member_from, any_times, once_times, reordered_times, HasFirst, order_groups, joined_is}
+use Rattle.rf_rewrite.proofs.Trees.{TreeOk, FirstSome, firsts, alone, IsLane, nodes_known}
+use Rattle.rf_rewrite.proofs.Blocks.{here_of, func_in, times_few, block_formed, operands_known, fresh_times, ends_front, ends_after, phis_after}
 use Rattle.rf_rewrite.proofs.Earlier.{stands_earlier}
 use Rattle.rf_rewrite.proofs.Scan.{users, Leaves, going_leaves, going_once, unwanted}
-use Rattle.rf_rewrite.proofs.Left.{without_append, gone_times, kept_times, fewer_times, left_is}
-use Rattle.rf_rewrite.proofs.Setting.{MayGo, Setting, leaves, after, ds}
+use Rattle.rf_rewrite.proofs.Left.{without_append, gone_times, kept_times, left_is}
+use Rattle.rf_rewrite.proofs.Setting.{MayGo, Setting, leaves, after}
 use Rattle.rf_rewrite.proofs.Setting.{going as going_facts}
-use Rattle.rf_rewrite.proofs.Cutting.{append_none, find_some, every_find, every_without, every_left, every_right, drop_times, among_times, up_to_has, next_is, FoundParts, found_parts, every_joined, last_among, unused_new, old_region}
+use Rattle.rf_rewrite.proofs.Cutting.{every_find, every_without, every_left, every_right, drop_times, among_times, up_to_has, next_is, FoundParts, found_parts, every_joined, last_among, unused_new, old_region}
 use Rattle.rf_rewrite.proofs.Stores as of_stores
-use Rattle.rf_rewrite.proofs.Roots.{Root, tree_root}
-
-true_false : true ≡ false → ⊥
-true_false e = cc
-
-some_is : {A : Type 0} {p q : A} → Some p ≡ Some q → p ≡ q
-some_is e = cc
+use Rattle.vx_serial.proofs.Decided.{true_false}
+use Rattle.rf_rewrite.proofs.Facts.{some_is, append_none}
 
 -- ---- changes one after another
 

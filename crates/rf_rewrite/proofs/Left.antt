@@ -15,11 +15,9 @@ use Rattle.vx_serial.specs.Changing.{not_among}
 use Rattle.rf_rewrite.proofs.Contexts.{one_of, times, times_append}
 use Rattle.rf_rewrite.proofs.Parts.{all_append}
 use Rattle.rf_rewrite.proofs.Window.{left, next_rest, find_append}
-use Rattle.rf_rewrite.proofs.Gone.{uses_id, used_by}
+use Rattle.rf_rewrite.proofs.Gone.{uses_id, used_by, without_none}
 use Rattle.rf_rewrite.proofs.Trees.{any_append}
-
-true_false : true ≡ false → ⊥
-true_false e = cc
+use Rattle.vx_serial.proofs.Decided.{true_false}
 
 -- ---- without ids
 
@@ -30,10 +28,6 @@ without_append xs (i ∷ l) k = by_test (is_id_in xs i.id) (without_append xs l 
     by_test : (b : Bool) → without xs (l ++ k) ≡ without xs l ++ without xs k → cond b (without xs (l ++ k)) (i ∷ without xs (l ++ k)) ≡ cond b (without xs l) (i ∷ without xs l) ++ without xs k
     by_test true e = e
     by_test false e = ap (λ u. i ∷ u) e
-
-pub without_none : (l : List Inst) → without [] l ≡ l
-without_none [] = refl
-without_none (i ∷ l) = ap (λ u. i ∷ u) (without_none l)
 
 without_cons : (x : Id) (xs : List Id) (l : List Inst) → without xs (each (removing x) l) ≡ without (x ∷ xs) l
 without_cons x xs [] = refl

@@ -1,4 +1,5 @@
 -- Why laws of rewriting hold.
+pub mod Facts
 pub mod Contexts
 pub mod Parts
 pub mod Window

@@ -20,6 +20,7 @@ use Rattle.vx_view.specs.Changes.{Edit, each, edited_block, edited_item, edited}
 use Rattle.sb_uses.specs.Totals.{id_times}
 use Rattle.rf_rewrite.specs.Rewritten.{in_block, in_item, with_insts}
 use Rattle.rf_rewrite.proofs.Contexts.{Context, func_with, block_with, items_with, plug, one_of, times, inst_ids, param_ids, ids_append, times_ids, ahead, past, around, place_of, number_from}
+use Rattle.rf_rewrite.proofs.Facts.{some_is, map_append}
 
 -- ---- parameters
 
@@ -185,9 +186,6 @@ pub record BlockSplit (bs : List Block) (insts : List Inst) : Type 0 where
   pub rest : List Block
   pub are : bs ≡ front ++ record { name = name; insts = insts } ∷ rest
 
-some_is : {A : Type 0} {p q : A} → Some p ≡ Some q → p ≡ q
-some_is e = cc
-
 split_blocks : (x : Id) (k n : ℕ) (bs : List Block) (s : Standing) → standing_in x k n bs ≡ Some s → BlockSplit bs s.block × (find x s.block ≡ Some s.inst)
 split_blocks x k n [] s e = absurd cc
 split_blocks x k n (b ∷ bs) s e = by_find (find x b.insts) refl e (split_blocks x k (suc n) bs s)
@@ -295,10 +293,6 @@ module _ (x : Id) (new : List Inst) where
       let parts = ids_append x (param_ids g.params) (block_ids g.blocks) in
       ap (λ bs. FuncItem (func_with g bs) ∷ map (in_item x new) items) (same_blocks g.blocks (omega (arith, sum, parts, e)))
       ∙ ap (λ u. FuncItem g ∷ u) (same_items items (omega (arith, sum, e)))
-
-map_append : {A B : Type 0} (f : A → B) (xs ys : List A) → map f (xs ++ ys) ≡ map f xs ++ map f ys
-map_append f [] ys = refl
-map_append f (x ∷ xs) ys = ap (λ u. f x ∷ u) (map_append f xs ys)
 
 pub with_insts_plug : (c : Context) (l new : List Inst) (x : Id) → around c x ≡ 0 → defines x l ≡ true → with_insts x new (plug c l) ≡ plug c new
 with_insts_plug c l new x e there = ap (λ items. record { items = items; globals = c.globals; big_endian_line = c.big }) (

@@ -17,9 +17,7 @@ use Rattle.vx_serial.specs.Rewriting.{uses_value, may_go, is_id_in, some, goes_w
 use Rattle.rf_rewrite.proofs.Contexts.{one_of, times, times_append}
 use Rattle.rf_rewrite.proofs.Window.{find_append}
 use Rattle.rf_rewrite.proofs.Gone.{Removable}
-
-true_false : true ≡ false → ⊥
-true_false e = cc
+use Rattle.vx_serial.proofs.Decided.{true_false}
 
 pub record AllFive (a b c d e : Bool) : Type 0 where
   pub first : a ≡ true

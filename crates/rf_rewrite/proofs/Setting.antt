@@ -18,14 +18,13 @@ use Rattle.vx_serial.specs.Changing.{not_among}
 use Rattle.rf_rewrite.proofs.Contexts.{Context, plug, one_of, times, times_append, around}
 use Rattle.rf_rewrite.proofs.Parts.{NoneAround, none_around}
 use Rattle.rf_rewrite.proofs.Window.{left, find_append, find_front, find_times, find_id}
-use Rattle.rf_rewrite.proofs.Gone.{uses_id, Loose, LooseUse, Removable, AllRemovable, Going}
+use Rattle.rf_rewrite.proofs.Gone.{uses_id, Loose, LooseUse, Removable, AllRemovable, Going, without_none}
 use Rattle.rf_rewrite.proofs.Making.{IsExtract, IsKept, Kind}
 use Rattle.rf_rewrite.proofs.Trees.{once_both}
 use Rattle.rf_rewrite.proofs.Scan.{users}
-use Rattle.rf_rewrite.proofs.Left.{without_append, without_none, gone_times, kept_times, fewer_times, without_agree, without_all, without_stays, moved, left_is, moved_stands, stands_moved, in_not_among, not_among_once, in_both, ids_times, times_ids_in, user_in}
-
-true_false : true ≡ false → ⊥
-true_false e = cc
+use Rattle.rf_rewrite.proofs.Left.{without_append, gone_times, kept_times, fewer_times, without_agree, without_all, without_stays, moved, left_is, moved_stands, stands_moved, in_not_among, not_among_once, in_both, ids_times, times_ids_in, user_in}
+use Rattle.vx_serial.proofs.Decided.{true_false, and_left, and_right}
+use Rattle.rf_rewrite.proofs.Facts.{append_none}
 
 -- an instruction of the block that may be removed
 pub record MayGo (block : List Inst) (y : Id) : Type 0 where
@@ -57,14 +56,6 @@ module _ (globals region : ℕ) (base : Id → ℕ) (c : Context) (front window 
   -- what is removed
   abbrev pub ds : List Id
   ds = not_among (ids_of ws) lanes ++ gone
-
-  and_left : (a b : Bool) → (a && b) ≡ true → a ≡ true
-  and_left true b e = refl
-  and_left false b e = absurd cc
-
-  and_right : (a b : Bool) → (a && b) ≡ true → b ≡ true
-  and_right true b e = e
-  and_right false b e = absurd cc
 
   not_true : (b : Bool) → not b ≡ true → b ≡ false
   not_true true e = absurd cc
@@ -315,10 +306,6 @@ module _ (globals region : ℕ) (base : Id → ℕ) (c : Context) (front window 
           let rest = then y h (omega (arith, z, sum)) in
           omega (arith, z, sum, all, few, rest)
 
-      append_none : (l : List Inst) → l ++ [] ≡ l
-      append_none [] = refl
-      append_none (i ∷ l) = ap (λ u. i ∷ u) (append_none l)
-
       last : Loose ds (x ∷ zs)
       last =
           subst (Loose ds) (append_none (without [] (x ∷ zs)) ∙ without_none (x ∷ zs))
@@ -349,10 +336,6 @@ module _ (globals region : ℕ) (base : Id → ℕ) (c : Context) (front window 
       (removable_part [] [] front (window ++ x ∷ zs) (remains ++ (ws ++ x ∷ zs)) refl
       (removable_part (moved globals region lanes ws) front window (x ∷ zs) (ws ++ x ∷ zs) refl (removable_written ws (x ∷ zs) (λ y some. some) last)))
     where
-      append_none : (l : List Inst) → l ++ [] ≡ l
-      append_none [] = refl
-      append_none (i ∷ l) = ap (λ u. i ∷ u) (append_none l)
-
       last : AllRemovable ds (x ∷ zs)
       last =
           subst (AllRemovable ds) (append_none (without [] (x ∷ zs)) ∙ without_none (x ∷ zs))

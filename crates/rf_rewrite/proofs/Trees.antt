@@ -35,35 +35,14 @@ use Rattle.rf_rewrite.proofs.Contexts.{neither_there}
 use Rattle.rf_rewrite.proofs.Window.{Known, find_id}
 use Rattle.rf_rewrite.proofs.Gone.{Removable}
 use Rattle.rf_rewrite.proofs.Making.{every_append, every_map, IdentKnown, NodeKnown}
+use Rattle.vx_serial.proofs.Decided.{true_false, and_left, and_right, or_left, or_right, or_second}
+use Rattle.rf_rewrite.proofs.Facts.{append_none}
 
 -- ---- booleans and lists
 
 false_of_not : (b : Bool) → not b ≡ false → b ≡ true
 false_of_not true e = refl
 false_of_not false e = absurd cc
-
-and_left : (a b : Bool) → (a && b) ≡ true → a ≡ true
-and_left true b e = refl
-and_left false b e = absurd cc
-
-and_right : (a b : Bool) → (a && b) ≡ true → b ≡ true
-and_right true b e = e
-and_right false b e = absurd cc
-
-or_first : (a b : Bool) → (a || b) ≡ false → a ≡ false
-or_first true b e = absurd cc
-or_first false b e = refl
-
-or_second : (a b : Bool) → (a || b) ≡ false → b ≡ false
-or_second true b e = absurd cc
-or_second false b e = e
-
-later : (a b : Bool) → b ≡ true → (a || b) ≡ true
-later true b e = refl
-later false b e = e
-
-true_false : true ≡ false → ⊥
-true_false e = cc
 
 pub any_append : (xs ys : List Id) (x : Id) → list_any (same_id x) (xs ++ ys) ≡ (list_any (same_id x) xs || list_any (same_id x) ys)
 any_append [] ys x = refl
@@ -77,7 +56,7 @@ pub once_both : (xs ys : List Id) → AreOnce xs → AreOnce ys → ((x : Id) �
 once_both [] ys o p apart = p
 once_both (x ∷ xs) ys o p apart = (
   any_append xs ys x ∙ ap (λ b. b || list_any (same_id x) ys) o.0 ∙ apart x (ap (λ b. b || is_id_in xs x) (same_itself x)),
-  once_both xs ys o.1 p (λ y h. apart y (later (same_id y x) (is_id_in xs y) h)),
+  once_both xs ys o.1 p (λ y h. apart y (or_second (same_id y x) (is_id_in xs y) h)),
 )
 
 among_any : (x : Id) (l : List Inst) → list_any (same_id x) (ids_of l) ≡ list_any (λ (j : Inst). same_id j.id x) l
@@ -86,15 +65,11 @@ among_any x (i ∷ l) = ap (λ b. b || list_any (same_id x) (ids_of l)) (swapped
 
 repeated_once : (l : List Inst) → are_repeated l ≡ false → AreOnce (ids_of l)
 repeated_once [] e = tt
-repeated_once (i ∷ l) e = (among_any i.id l ∙ or_first (is_among l i) (are_repeated l) e, repeated_once l (or_second (is_among l i) (are_repeated l) e))
+repeated_once (i ∷ l) e = (among_any i.id l ∙ or_left (is_among l i) (are_repeated l) e, repeated_once l (or_right (is_among l i) (are_repeated l) e))
 
 joined_append : (bs cs : List (List Id)) → joined (bs ++ cs) ≡ joined bs ++ joined cs
 joined_append [] cs = refl
 joined_append (b ∷ bs) cs = ap (λ u. b ++ u) (joined_append bs cs) ∙ sym (append_assoc b (joined bs) (joined cs))
-
-append_none : (xs : List Id) → xs ++ [] ≡ xs
-append_none [] = refl
-append_none (x ∷ xs) = ap (λ u. x ∷ u) (append_none xs)
 
 -- ---- causes
 
@@ -231,18 +206,18 @@ module _ (globals : ℕ) (base : Id → ℕ) (m : Module) (block : List Inst) (l
           by_both : (b : Bool) → is_id_in (ids_of (insts_of block n.lanes)) x ≡ b → (b || is_id_in (joined (bundles_of block ns)) x) ≡ true →
               ((is_widened n.how && list_any (same_value (Val x)) n.lanes) || is_taken ns (Val x)) ≡ true
           by_both true t s = ap (λ b. b || is_taken ns (Val x)) (at ∙ lane_taken x n.lanes w t)
-          by_both false t s = later (is_widened n.how && list_any (same_value (Val x)) n.lanes) (is_taken ns (Val x)) (more s)
-      by_how (Reuse k) e w r more = later (is_widened n.how && list_any (same_value (Val x)) n.lanes) (is_taken ns (Val x)) (more r)
-      by_how (Ident v) e w r more = later (is_widened n.how && list_any (same_value (Val x)) n.lanes) (is_taken ns (Val x)) (more r)
-      by_how (Pack c) e w r more = later (is_widened n.how && list_any (same_value (Val x)) n.lanes) (is_taken ns (Val x)) (more r)
+          by_both false t s = or_second (is_widened n.how && list_any (same_value (Val x)) n.lanes) (is_taken ns (Val x)) (more s)
+      by_how (Reuse k) e w r more = or_second (is_widened n.how && list_any (same_value (Val x)) n.lanes) (is_taken ns (Val x)) (more r)
+      by_how (Ident v) e w r more = or_second (is_widened n.how && list_any (same_value (Val x)) n.lanes) (is_taken ns (Val x)) (more r)
+      by_how (Pack c) e w r more = or_second (is_widened n.how && list_any (same_value (Val x)) n.lanes) (is_taken ns (Val x)) (more r)
 
   not_taken : (tree : List Node) (x : Id) (lanes : List Opd) → Every LaneOk lanes → list_any (is_taken tree) lanes ≡ false → is_id_in (ids_of (insts_of block lanes)) x ≡ true → is_taken tree (Val x) ≡ false
   not_taken tree x [] k e h = absurd cc
-  not_taken tree x (o ∷ os) k e h = by_first (same_id x k.0.id) refl (subst (λ l. is_id_in (ids_of (with_lane l (insts_of block os))) x ≡ true) (lane_inst o k.0) h) (not_taken tree x os k.1 (or_second (is_taken tree o) (list_any (is_taken tree) os) e))
+  not_taken tree x (o ∷ os) k e h = by_first (same_id x k.0.id) refl (subst (λ l. is_id_in (ids_of (with_lane l (insts_of block os))) x ≡ true) (lane_inst o k.0) h) (not_taken tree x os k.1 (or_right (is_taken tree o) (list_any (is_taken tree) os) e))
     where
       by_first : (b : Bool) → same_id x k.0.id ≡ b → (same_id x k.0.inst.id || is_id_in (ids_of (insts_of block os)) x) ≡ true →
           (is_id_in (ids_of (insts_of block os)) x ≡ true → is_taken tree (Val x) ≡ false) → is_taken tree (Val x) ≡ false
-      by_first true t r more = ap (λ v. is_taken tree (Val v)) (same_is x k.0.id t) ∙ ap (is_taken tree) (sym k.0.value) ∙ or_first (is_taken tree o) (list_any (is_taken tree) os) e
+      by_first true t r more = ap (λ v. is_taken tree (Val v)) (same_is x k.0.id t) ∙ ap (is_taken tree) (sym k.0.value) ∙ or_left (is_taken tree o) (list_any (is_taken tree) os) e
       by_first false t r more = more (sym (ap (λ b. b || is_id_in (ids_of (insts_of block os)) x) (ap (same_id x) (same_is k.0.inst.id k.0.id (find_id k.0.id block k.0.inst k.0.stands)) ∙ t)) ∙ r)
 
   -- ---- a tree
@@ -510,13 +485,13 @@ module _ (globals : ℕ) (base : Id → ℕ) (m : Module) (block : List Inst) (l
       by_how Widen e w r more =
           ap (λ q. cond (is_widened q && is_first_lane x n.lanes) (Some (at, n.slots)) (bundle_of x (suc at) ns)) e
           ∙ ap (λ b. cond b (Some (at, n.slots)) (bundle_of x (suc at) ns)) (never (is_first_lane x n.lanes) refl)
-          ∙ more (or_second (is_id_in (ids_of (insts_of block n.lanes)) x) (is_id_in (joined (bundles_of block ns)) x) apart)
+          ∙ more (or_right (is_id_in (ids_of (insts_of block n.lanes)) x) (is_id_in (joined (bundles_of block ns)) x) apart)
         where
           apart : (is_id_in (ids_of (insts_of block n.lanes)) x || is_id_in (joined (bundles_of block ns)) x) ≡ false
           apart = sym (any_append (ids_of (insts_of block n.lanes)) (joined (bundles_of block ns)) x) ∙ r
 
           never : (b : Bool) → is_first_lane x n.lanes ≡ b → b ≡ false
-          never true t = absurd (true_false (sym (first_lane x n.lanes w t) ∙ or_first (is_id_in (ids_of (insts_of block n.lanes)) x) (is_id_in (joined (bundles_of block ns)) x) apart))
+          never true t = absurd (true_false (sym (first_lane x n.lanes w t) ∙ or_left (is_id_in (ids_of (insts_of block n.lanes)) x) (is_id_in (joined (bundles_of block ns)) x) apart))
           never false t = refl
 
   -- ---- all lanes
