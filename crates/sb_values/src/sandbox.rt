@@ -3,7 +3,7 @@
 //! Contracts see both (`contents`), the `state` that undoing brings back, and the `spare`: how much changes may cost before they want memory.
 //! Its parts agree at all times: each id stands once, and each use list has the slots of its value. `lift` is the way in, `lower` the way out.
 
-ghost use Rattle.std.specs.Prelude.{◌≡◌, ◌≤◌, ◌+◌, IsOk, IsTrue, IsFalse, IfOk, IfErr, OnOk, OnErr};
+ghost use Rattle.std.specs.Prelude.{[], ◌≡◌, ◌≤◌, ◌+◌, IsOk, IsTrue, IsFalse, IfOk, IfErr, OnOk, OnErr};
 ghost use Rattle.ir_types.specs.Formed.{IsFormed};
 ghost use Rattle.vx_view.specs.Answers.{answer};
 ghost use Rattle.vx_view.specs.declared.question.Question.TheVariants as ask;
@@ -129,6 +129,7 @@ impl Sandbox {
     /// Lets go of what was kept, so that no change made so far can be undone any more.
     pub fn settle(&mut self)
         ensures now { contents self.new ≡ contents self.old }
+        ensures gone { (state self.new).stock.kept ≡ [] }
         ensures room { spare self.old ≤ spare self.new }
     {
         self.parts.slots.forget();
