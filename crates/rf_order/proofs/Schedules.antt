@@ -75,6 +75,24 @@ chosen_among nodes links (w ∷ ws) placed c x h = by_first (head_or_more w x ws
   by_first (inl e) more = ap (has nodes) (sym e) ∙ c.1
   by_first (inr k) more = more k
 
+-- ---- groups in turn
+
+-- each group stands after all that its members depend on
+abbrev pub InTurn : (ℕ → ℕ → Bool) → (ℕ → Bool) → List (List ℕ) → Type 0
+InTurn depends done [] = Unit {0}
+InTurn depends done (g ∷ gs) = ((y : ℕ) → has g y ≡ true → (x : ℕ) → x < y → depends y x ≡ true → done x ≡ true) × InTurn depends (λ x. has g x || done x) gs
+
+in_turn_more : (depends : ℕ → ℕ → Bool) (few more : ℕ → Bool) (gs : List (List ℕ)) → ((x : ℕ) → few x ≡ true → more x ≡ true) → InTurn depends few gs → InTurn depends more gs
+in_turn_more depends few more [] h t = tt
+in_turn_more depends few more (g ∷ gs) h t = (
+  (λ y k x less d. h x (t.0 y k x less d)),
+  in_turn_more depends (λ x. has g x || few x) (λ x. has g x || more x) gs (λ x. either_way (has g x) (few x) (more x) (h x)) t.1,
+)
+  where
+    either_way : (b a d : Bool) → (a ≡ true → d ≡ true) → (b || a) ≡ true → (b || d) ≡ true
+    either_way true a d f k = refl
+    either_way false a d f k = f k
+
 -- ---- edges
 
 -- an item stands in a list
@@ -212,33 +230,47 @@ module _ (groups : List (List ℕ)) (n : ℕ) (edges : List (ℕ × ℕ)) (depen
       append_assoc [] ys zs = refl
       append_assoc (x ∷ xs) ys zs = ap (λ r. x ∷ r) (append_assoc xs ys zs)
 
+    module _ (w : ℕ) (us placed : List ℕ) (c : Chosen (positions groups) (links_of groups edges) placed (w ∷ us)) where
+      -- what is placed with one more group is placed, or of that group
+      shared : (x : ℕ) → has (flat (placed ++ w ∷ [])) x ≡ true → has (group_of groups w) x || has (flat placed) x ≡ true
+      shared x k = by_part (has_part (flat placed) (group_of groups w ++ []) x (ap (λ l. has l x) (sym (flat_more placed w)) ∙ k)) where
+        by_part : (has (flat placed) x ≡ true) ⊎ (has (group_of groups w ++ []) x ≡ true) → has (group_of groups w) x || has (flat placed) x ≡ true
+        by_part (inl k) = or_second (has (group_of groups w) x) (has (flat placed) x) k
+        by_part (inr k) = or_first (has (group_of groups w) x) (has (flat placed) x) (ap (λ l. has l x) (sym (append-nil (group_of groups w))) ∙ k)
+
+      -- all that a member depends on is placed
+      ready : (y : ℕ) → has (group_of groups w) y ≡ true → (x : ℕ) → x < y → depends y x ≡ true → has (flat placed) x ≡ true
+      ready y h x less d =
+          let yn : y < n = below y (in_joined groups (owner_of groups w) y h) in
+          let hx : has (joined groups) x ≡ true = inside x (omega arith) in
+          let pw = same_number (position_of groups w) w (filter_passes (λ v. position_of groups v == v) (range_with_len 0 (size groups)) w c.1) in
+          let py : position_of groups y ≡ w = position_is groups y ∙ ap (λ k. least (get_or groups k [])) (owner_unique groups (owner_of groups w) y distinct h) ∙ sym (position_is groups w) ∙ pw in
+          let links = (both (not (has placed w)) (list_all (λ l. not (l.1 == w) || has placed l.0) (links_of groups edges)) c.0).1 in
+          let one : (not (position_of groups y == w) || has placed (position_of groups x)) ≡ true =
+          all_of (λ l. not (l.1 == w) || has placed l.0) (λ e. (position_of groups e.0, position_of groups e.1)) edges (x, y) links (edge x y less d) in
+          in_flat placed (position_of groups x) x
+          (second (position_of groups y == w) (has placed (position_of groups x)) (ap (λ k. k == w) py ∙ number_itself w) one) (stood x hx).holds
+        where
+          second : (a b : Bool) → a ≡ true → (not a || b) ≡ true → b ≡ true
+          second true b e h = h
+          second false b e h = absurd cc
+
     topo_flat : (us placed : List ℕ) → Chosen (positions groups) (links_of groups edges) placed us → Topological depends (λ x. has (flat placed) x) (flat us)
     topo_flat [] placed c = tt
     topo_flat (w ∷ us) placed c =
-        topo_group (group_of groups w) (flat us) (λ x. has (flat placed) x) ready
-        (topological_more depends (λ x. has (flat (placed ++ w ∷ [])) x) (λ x. has (group_of groups w) x || has (flat placed) x) (flat us) (λ x h. shared x (ap (λ l. has l x) (sym (flat_more placed w)) ∙ h)) (topo_flat us (placed ++ w ∷ []) c.2))
-      where
-        shared : (x : ℕ) → has (flat placed ++ (group_of groups w ++ [])) x ≡ true → has (group_of groups w) x || has (flat placed) x ≡ true
-        shared x h = by_part (has_part (flat placed) (group_of groups w ++ []) x h) where
-          by_part : (has (flat placed) x ≡ true) ⊎ (has (group_of groups w ++ []) x ≡ true) → has (group_of groups w) x || has (flat placed) x ≡ true
-          by_part (inl k) = or_second (has (group_of groups w) x) (has (flat placed) x) k
-          by_part (inr k) = or_first (has (group_of groups w) x) (has (flat placed) x) (ap (λ l. has l x) (sym (append-nil (group_of groups w))) ∙ k)
+        topo_group (group_of groups w) (flat us) (λ x. has (flat placed) x) (ready w us placed c)
+        (topological_more depends (λ x. has (flat (placed ++ w ∷ [])) x) (λ x. has (group_of groups w) x || has (flat placed) x) (flat us) (shared w us placed c) (topo_flat us (placed ++ w ∷ []) c.2))
 
-        ready : (y : ℕ) → has (group_of groups w) y ≡ true → (x : ℕ) → x < y → depends y x ≡ true → has (flat placed) x ≡ true
-        ready y h x less d =
-            let yn : y < n = below y (in_joined groups (owner_of groups w) y h) in
-            let hx : has (joined groups) x ≡ true = inside x (omega arith) in
-            let pw = same_number (position_of groups w) w (filter_passes (λ v. position_of groups v == v) (range_with_len 0 (size groups)) w c.1) in
-            let py : position_of groups y ≡ w = position_is groups y ∙ ap (λ k. least (get_or groups k [])) (owner_unique groups (owner_of groups w) y distinct h) ∙ sym (position_is groups w) ∙ pw in
-            let links = (both (not (has placed w)) (list_all (λ l. not (l.1 == w) || has placed l.0) (links_of groups edges)) c.0).1 in
-            let one : (not (position_of groups y == w) || has placed (position_of groups x)) ≡ true =
-            all_of (λ l. not (l.1 == w) || has placed l.0) (λ e. (position_of groups e.0, position_of groups e.1)) edges (x, y) links (edge x y less d) in
-            in_flat placed (position_of groups x) x
-            (second (position_of groups y == w) (has placed (position_of groups x)) (ap (λ k. k == w) py ∙ number_itself w) one) (stood x hx).holds
-          where
-            second : (a b : Bool) → a ≡ true → (not a || b) ≡ true → b ≡ true
-            second true b e h = h
-            second false b e h = absurd cc
+    -- group by group
+    turns_from : (us placed : List ℕ) → Chosen (positions groups) (links_of groups edges) placed us → InTurn depends (λ x. has (flat placed) x) (map (group_of groups) us)
+    turns_from [] placed c = tt
+    turns_from (w ∷ us) placed c = (
+      ready w us placed c,
+      in_turn_more depends (λ x. has (flat (placed ++ w ∷ [])) x) (λ x. has (group_of groups w) x || has (flat placed) x) (map (group_of groups) us) (shared w us placed c) (turns_from us (placed ++ w ∷ []) c.2),
+    )
+
+    pub groups_in_turn : InTurn depends (λ x. false) (map (group_of groups) ws)
+    groups_in_turn = turns_from ws [] chosen
 
     pub flat_reordered : Reordered depends places (flat ws)
     flat_reordered =

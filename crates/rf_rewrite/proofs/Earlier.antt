@@ -25,7 +25,7 @@ use Rattle.rf_rewrite.proofs.Parts.{defines_none}
 use Rattle.rf_rewrite.proofs.Gone.{uses_id}
 use Rattle.rf_rewrite.proofs.Blocks.{get_split, func_in, times_few}
 
-plain_end : (o : Op) (slot block : ℕ) → is_phi o ≡ false → walk_end o slot block ≡ Some block
+pub plain_end : (o : Op) (slot block : ℕ) → is_phi o ≡ false → walk_end o slot block ≡ Some block
 plain_end (op.Bin o flags) slot block e = refl
 plain_end (op.Icmp pred) slot block e = refl
 plain_end (op.Cast o nneg) slot block e = refl
@@ -45,7 +45,7 @@ plain_end (op.Switch other cases to) slot block e = refl
 plain_end op.Unreachable slot block e = refl
 plain_end (op.Call site) slot block e = refl
 
-plain_before : (o : Op) (last : List Inst) (p : ℕ) → is_phi o ≡ false → before_use o last p ≡ p
+pub plain_before : (o : Op) (last : List Inst) (p : ℕ) → is_phi o ≡ false → before_use o last p ≡ p
 plain_before (op.Bin o flags) last p e = refl
 plain_before (op.Icmp pred) last p e = refl
 plain_before (op.Cast o nneg) last p e = refl

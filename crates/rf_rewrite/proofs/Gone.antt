@@ -253,7 +253,7 @@ other_gone d (x ∷ xs) o = by_test (same_id d x) refl (other_gone d xs o.1)
     by_test true t r = subst (λ z. is_id_in xs z ≡ false) (sym (same_is d x t)) o.0
     by_test false t r = ap (λ b. b || is_id_in (other_than d xs) d) t ∙ r
 
-other_length : (d : Id) (ds : List Id) → is_id_in ds d ≡ true → suc (length (other_than d ds)) ≡ length ds
+pub other_length : (d : Id) (ds : List Id) → is_id_in ds d ≡ true → suc (length (other_than d ds)) ≡ length ds
 other_length d [] h = absurd cc
 other_length d (x ∷ xs) h = by_test (same_id d x) h (other_length d xs)
   where
@@ -285,7 +285,7 @@ removable_removed d ds (i ∷ l) h = by_test (same_id i.id d) (removable_removed
     by_test true r = r
     by_test false r = ((λ g. h.0 (other_was d i.id ds g)), r)
 
-other_times : (d y : Id) (l : List Inst) → same_id d y ≡ false → times y (each (removing_edit d) l) ≡ times y l
+pub other_times : (d y : Id) (l : List Inst) → same_id d y ≡ false → times y (each (removing_edit d) l) ≡ times y l
 other_times d y [] e = refl
 other_times d y (i ∷ l) e = by_test (same_id i.id d) refl (other_times d y l e)
   where
@@ -346,10 +346,37 @@ nothing_goes : (c : Context) (l : List Inst) (n : ℕ) → Goes c [] l n
 nothing_goes c l zero = (ap (plug c) (sym (without_none l)), tt)
 nothing_goes c l (suc n) = (ap (plug c) (sym (without_none l)), tt)
 
-pub all_go : (c : Context) (n : ℕ) (ds : List Id) (l : List Inst) → length ds ≡ n → Going c ds l → Goes c ds l n
-all_go c n [] l e g = nothing_goes c l n
-all_go c zero (d ∷ ds) l e g = absurd (omega (arith, e))
-all_go c (suc n) (d ∷ ds) l e g = by_greatest (greatest_there (plug c l) (d ∷ ds) z.one z.goes free) (λ x. all_go c n (other_than x (d ∷ ds)) (each (removing_edit x) l))
+-- one that goes and is unused is removed, and then all holds of the others
+module _ (c : Context) (ds : List Id) (l : List Inst) (g : Going c ds l) (x : Id) (goes : is_id_in ds x ≡ true) where
+  own : times x l ≡ 1
+  own = g.stand x goes
+
+  pub removed_there : applied (Remove x) (plug c l) ≡ plug c (each (removing_edit x) l)
+  removed_there = edited_plug c l x (removing_edit x) (removing_only x) (g.here x goes)
+
+  was : (y : Id) → is_id_in (other_than x ds) y ≡ true → is_id_in ds y ≡ true
+  was y r = other_was x y ds r
+
+  apart : (y : Id) → is_id_in (other_than x ds) y ≡ true → same_id x y ≡ false
+  apart y r = by_test (same_id x y) refl
+    where
+      by_test : (b : Bool) → same_id x y ≡ b → b ≡ false
+      by_test true t = absurd (true_not_false (subst (λ v. is_id_in (other_than x ds) v ≡ true) (sym (same_is x y t)) r) (other_gone x ds g.once))
+      by_test false t = refl
+
+  pub others_go : Going c (other_than x ds) (each (removing_edit x) l)
+  others_go = record {
+    once = other_once x ds g.once;
+    loose = loose_removed x ds l g.loose;
+    removable = removable_removed x ds l g.removable;
+    stand = λ y r. other_times x y l (apart y r) ∙ g.stand y (was y r);
+    here = λ y r. g.here y (was y r);
+    unused = λ y r. g.unused y (was y r);
+  }
+
+-- while some are left one is unused
+pub one_free : (c : Context) (d : Id) (ds : List Id) (l : List Inst) → Going c (d ∷ ds) l → Greatest (plug c l) (d ∷ ds)
+one_free c d ds l g = greatest_there (plug c l) (d ∷ ds) z.one z.goes free
   where
     z : Last (d ∷ ds) l
     z = last (d ∷ ds) l g.loose (standing (d ∷ ds) d l (head_in d ds) (let one = g.stand d (head_in d ds) in omega (arith, one)))
@@ -357,10 +384,15 @@ all_go c (suc n) (d ∷ ds) l e g = by_greatest (greatest_there (plug c l) (d �
     free : is_unused (plug c l) z.one ≡ true
     free = none_some (uses_of z.one (funcs_of (plug c l).items)) (no_uses_plug c l z.one (g.unused z.one z.goes) (unused_in z.one l z.unused))
 
+pub all_go : (c : Context) (n : ℕ) (ds : List Id) (l : List Inst) → length ds ≡ n → Going c ds l → Goes c ds l n
+all_go c n [] l e g = nothing_goes c l n
+all_go c zero (d ∷ ds) l e g = absurd (omega (arith, e))
+all_go c (suc n) (d ∷ ds) l e g = by_greatest (one_free c d ds l g) (λ x. all_go c n (other_than x (d ∷ ds)) (each (removing_edit x) l))
+  where
     by_greatest : Greatest (plug c l) (d ∷ ds) → ((x : Id) → length (other_than x (d ∷ ds)) ≡ n → Going c (other_than x (d ∷ ds)) (each (removing_edit x) l) → Goes c (other_than x (d ∷ ds)) (each (removing_edit x) l) n) →
         Goes c (d ∷ ds) l (suc n)
     by_greatest h more =
-        let rest = more h.one (let long = other_length h.one (d ∷ ds) h.goes in omega (arith, long, e)) then in (
+        let rest = more h.one (let long = other_length h.one (d ∷ ds) h.goes in omega (arith, long, e)) (others_go c (d ∷ ds) l g h.one h.goes) in (
           ap (λ o. all_applied (removing o (λ x. removals n (applied (Remove x) (plug c l)) (other_than x (d ∷ ds)))) (plug c l)) h.is
               ∙ ap (λ m. all_applied (removals n m (other_than h.one (d ∷ ds))) m) at
               ∙ rest.0 ∙ ap (plug c) (without_removed h.one (d ∷ ds) l h.goes),
@@ -368,14 +400,11 @@ all_go c (suc n) (d ∷ ds) l e g = by_greatest (greatest_there (plug c l) (d �
               (fits, subst (λ m. AllFit (removals n m (other_than h.one (d ∷ ds))) m) (sym at) rest.1),
         )
       where
-        own : times h.one l ≡ 1
-        own = g.stand h.one h.goes
-
         at : applied (Remove h.one) (plug c l) ≡ plug c (each (removing_edit h.one) l)
-        at = edited_plug c l h.one (removing_edit h.one) (removing_only h.one) (g.here h.one h.goes)
+        at = removed_there c (d ∷ ds) l g h.one h.goes
 
         inst : (i : Inst) × (find h.one l ≡ Some i)
-        inst = find_some h.one l (omega (arith, own))
+        inst = find_some h.one l (let one = g.stand h.one h.goes in omega (arith, one))
 
         fits : Fits (plug c l) (Remove h.one)
         fits = (
@@ -386,23 +415,3 @@ all_go c (suc n) (d ∷ ds) l e g = by_greatest (greatest_there (plug c l) (d �
           ),
           some_none (uses_of h.one (funcs_of (plug c l).items)) h.unused,
         )
-
-        was : (y : Id) → is_id_in (other_than h.one (d ∷ ds)) y ≡ true → is_id_in (d ∷ ds) y ≡ true
-        was y r = other_was h.one y (d ∷ ds) r
-
-        apart : (y : Id) → is_id_in (other_than h.one (d ∷ ds)) y ≡ true → same_id h.one y ≡ false
-        apart y r = by_test (same_id h.one y) refl
-          where
-            by_test : (b : Bool) → same_id h.one y ≡ b → b ≡ false
-            by_test true t = absurd (true_not_false (subst (λ v. is_id_in (other_than h.one (d ∷ ds)) v ≡ true) (sym (same_is h.one y t)) r) (other_gone h.one (d ∷ ds) g.once))
-            by_test false t = refl
-
-        then : Going c (other_than h.one (d ∷ ds)) (each (removing_edit h.one) l)
-        then = record {
-          once = other_once h.one (d ∷ ds) g.once;
-          loose = loose_removed h.one (d ∷ ds) l g.loose;
-          removable = removable_removed h.one (d ∷ ds) l g.removable;
-          stand = λ y r. other_times h.one y l (apart y r) ∙ g.stand y (was y r);
-          here = λ y r. g.here y (was y r);
-          unused = λ y r. g.unused y (was y r);
-        }

@@ -1,5 +1,5 @@
 -- The changes of a region lead to the module in which it is rewritten.
-use Rattle.std.proofs.Common.{◌≡◌, refl, sym, ap, ◌∙◌, subst, ℕ, suc, ◌+◌, ◌-◌, ◌<◌, ◌≤◌, ◌⊎◌, inl, inr, Bool, true, false, ◌&&◌, ◌||◌, Option, None, Some, List, [], ◌∷◌, ◌++◌, cond, nat_eq, option_map, arith, length, append_assoc}
+use Rattle.std.proofs.Common.{◌≡◌, refl, sym, ap, ◌∙◌, subst, ℕ, suc, ◌+◌, ◌-◌, ◌<◌, ◌≤◌, ◌⊎◌, inl, inr, Bool, true, false, ◌&&◌, ◌||◌, Option, None, Some, List, [], ◌∷◌, ◌++◌, map, cond, nat_eq, option_map, arith, length, append_assoc}
 use Rattle.std.specs.Prelude.{is_none}
 use Rattle.std.specs.List.{list_any}
 use Rattle.std.proofs.lemmas.Bool.Decides.{nat_tests}
@@ -8,10 +8,11 @@ use Rattle.ir_types.specs.declared.inst.Inst.{Inst}
 use Rattle.ir_types.specs.declared.module.Module.{Module}
 use Rattle.ir_types.specs.Walks.{IsReached}
 use Rattle.ir_types.specs.Available.{same_id, graph_of}
-use Rattle.ir_types.specs.Formed.{is_phi, is_terminator, IsFormed, IsFresh, ids_of as module_ids}
+use Rattle.ir_types.specs.Formed.{is_phi, is_terminator, IsFormed, IsFresh, IsLawful, ids_of as module_ids}
 use Rattle.ir_types.proofs.Formed.{Every, every_of_all}
 use Rattle.ir_types.proofs.Among.{same_is, same_itself}
 use Rattle.vx_view.specs.declared.change.Change.{Change}
+use Rattle.vx_view.specs.declared.change.Change.TheVariants.{Remove}
 use Rattle.vx_view.specs.Answers.{funcs_of, find, found, after as next_after, uses_of, id_of}
 use Rattle.vx_view.specs.Addresses.{block_of}
 use Rattle.vx_view.specs.Changes.{applied, all_applied, AllFit}
@@ -27,6 +28,9 @@ use Rattle.vx_serial.specs.Changing.{steps, removals, not_among, before_next, ch
 use Rattle.vx_serial.proofs.Places.{member_joined}
 use Rattle.rf_order.proofs.Windows.{orders_reordered}
 use Rattle.rf_rewrite.specs.Rewritten.{with_insts, is_root_widened, Leads, ChangesLead}
+use Rattle.rf_rewrite.specs.Removing.{among, removal_order, changes_in_turn, RemovedInTurn}
+use Rattle.rf_rewrite.specs.Removing as in_turn
+use Rattle.rf_rewrite.proofs.Removing.{removed_in_turn}
 use Rattle.rf_rewrite.proofs.Contexts.{Context, plug, times, times_append, around, ids_plug, place_of, found_plug}
 use Rattle.rf_rewrite.proofs.Parts.{with_insts_plug, defines_found}
 use Rattle.rf_rewrite.proofs.Window.{Fine, numbers, window_is, find_append, find_front, find_times, find_id}
@@ -40,7 +44,7 @@ use Rattle.rf_rewrite.proofs.Blocks.{here_of, func_in, times_few, block_formed, 
 use Rattle.rf_rewrite.proofs.Earlier.{stands_earlier}
 use Rattle.rf_rewrite.proofs.Scan.{users, Leaves, going_leaves, going_once, unwanted}
 use Rattle.rf_rewrite.proofs.Left.{without_append, gone_times, kept_times, left_is}
-use Rattle.rf_rewrite.proofs.Setting.{MayGo, Setting, leaves, after}
+use Rattle.rf_rewrite.proofs.Setting.{MayGo, Setting, leaves, after, among_after}
 use Rattle.rf_rewrite.proofs.Setting.{going as going_facts}
 use Rattle.rf_rewrite.proofs.Cutting.{every_find, every_without, every_left, every_right, drop_times, among_times, up_to_has, next_is, FoundParts, found_parts, every_joined, last_among, unused_new, old_region}
 use Rattle.rf_rewrite.proofs.Stores as of_stores
@@ -56,6 +60,10 @@ applied_append (c ∷ cs) es m = applied_append cs es (applied c m)
 fit_append : (cs es : List Change) (m : Module) → AllFit cs m → AllFit es (all_applied cs m) → AllFit (cs ++ es) m
 fit_append [] es m f g = g
 fit_append (c ∷ cs) es m f g = (f.0, fit_append cs es (applied c m) f.1 g)
+
+-- the changes lead to the rewritten module, and are those that are told on lists
+abbrev Both : Module → ℕ → List Id → Type 0
+Both m region stores = Leads m region stores × (changes m region stores ≡ changes_in_turn m region stores)
 
 -- ---- the law, on a block that is cut
 
@@ -394,15 +402,36 @@ module _ (c : Context) (front ws_old : List Inst) (x : Inst) (zs : List Inst) (r
         ∙ ap (λ a. Some (without gone (front ++ (rewritten_list ++ a)))) cut_after
         ∙ ap Some (without_append gone front (rewritten_list ++ x ∷ zs) ∙ ap (λ u. without gone front ++ u) (without_append gone rewritten_list (x ∷ zs)))
 
-    pub law : Leads whole region (s ∷ stores)
-    law = record {
-      list = made_changes;
-      are = changes_are;
-      fit = made_lead.1;
-      there =
-          ap (option_map (λ insts. with_insts s insts whole)) rewritten_is
-          ∙ ap Some (with_insts_plug c block result s (let le = few s in let some = find_times s block store finds in omega (arith, le, some)) (defines_found s block store finds) ∙ sym made_lead.0);
-    }
+    -- ---- what is removed, told on lists
+
+    abbrev turned : List Change
+    turned = stepped ++ map Remove (removal_order (length goers) (among goers block) goers)
+
+    turned_are : made_changes ≡ turned
+    turned_are = ap (λ r. stepped ++ r) (
+        ap (λ m. removals (length goers) m goers) led.0
+        ∙ removed_in_turn c (length goers) goers (after (length c.globals) region base c front ws_old x zs lanes gone new ws setting) refl (going_facts (length c.globals) region base c front ws_old x zs lanes gone new ws setting)
+        ∙ ap (λ is. map Remove (removal_order (length goers) is goers)) (among_after (length c.globals) region base c front ws_old x zs lanes gone new ws setting))
+
+    in_turn_are : changes_in_turn whole region (s ∷ stores) ≡ Some turned
+    in_turn_are =
+        ap (λ b. in_turn.changes_of whole region b (last_in (s ∷ stores) s b) (tree_in whole b (last_in (s ∷ stores) s b) (s ∷ stores)) (bundles_of b (tree_in whole b (last_in (s ∷ stores) s b) (s ∷ stores)))) block_is
+        ∙ ap (option_map (λ gs. in_turn.changes_in whole region block last (plan_of whole region block tree (joined_ids bundles) gs))) ordered.1
+        ∙ ap (λ p. Some (in_turn.changes_in whole region block last p)) plan_is
+        ∙ ap (λ o. Some (in_turn.before_next whole region block plan o)) next_x
+
+    pub law : Both whole region (s ∷ stores)
+    law = (
+      record {
+        list = made_changes;
+        are = changes_are;
+        fit = made_lead.1;
+        there =
+            ap (option_map (λ insts. with_insts s insts whole)) rewritten_is
+            ∙ ap Some (with_insts_plug c block result s (let le = few s in let some = find_times s block store finds in omega (arith, le, some)) (defines_found s block store finds) ∙ sym made_lead.0);
+      },
+      changes_are ∙ ap Some turned_are ∙ sym in_turn_are,
+    )
 
 -- ---- the law, on any block
 
@@ -444,9 +473,9 @@ module _ (c : Context) (block : List Inst) (region : ℕ) (s : Id) (stores : Lis
       is_root_widened (tree_in (plug c l) l (last_in (s ∷ stores) s l) (s ∷ stores)) ≡ true →
       before_member (bundles_of l (tree_in (plug c l) l (last_in (s ∷ stores) s l) (s ∷ stores))) l ≡ before_member all_bundles block →
       window l (last_in (s ∷ stores) s l) (bundles_of l (tree_in (plug c l) l (last_in (s ∷ stores) s l) (s ∷ stores))) ≡ window block last_store all_bundles →
-      after_inst (last_in (s ∷ stores) s l) l ≡ something.0 ∷ something.1 → Leads (plug c l) region (s ∷ stores)
+      after_inst (last_in (s ∷ stores) s l) l ≡ something.0 ∷ something.1 → Both (plug c l) region (s ∷ stores)
 
-  pub law_of_block : Leads (plug c block) region (s ∷ stores)
+  pub law_of_block : Both (plug c block) region (s ∷ stores)
   law_of_block =
       subst Lawful cut
       (λ f r w e a t b v n. law c (before_member all_bundles block) (window block last_store all_bundles) something.0 something.1 region s stores f r w store e a t b v n)
@@ -454,11 +483,10 @@ module _ (c : Context) (block : List Inst) (region : ℕ) (s : Id) (stores : Lis
 
 -- ---- the law
 
-pub changes_do_lead : ChangesLead
-changes_do_lead m region [] formed fresh lawful widened = absurd cc
-changes_do_lead m region (s ∷ stores) formed fresh lawful widened =
+both_laws : (m : Module) (region : ℕ) (s : Id) (stores : List Id) → IsFormed m → IsFresh m region → IsLawful m (s ∷ stores) → is_root_widened (tree_of m (s ∷ stores)) ≡ true → Both m region (s ∷ stores)
+both_laws m region s stores formed fresh lawful widened =
     let h = here_of m s stores formed lawful in
-    subst (λ n. IsFormed n → IsFresh n region → is_root_widened (tree_of n (s ∷ stores)) ≡ true → Leads n region (s ∷ stores)) h.whole
+    subst (λ n. IsFormed n → IsFresh n region → is_root_widened (tree_of n (s ∷ stores)) ≡ true → Both n region (s ∷ stores)) h.whole
     (λ f r w. law_of_block h.context h.insts region s stores f r h.reached h.store h.finds h.each (root_of h.context h.insts f h.store h.finds w))
     formed fresh widened
   where
@@ -469,3 +497,11 @@ changes_do_lead m region (s ∷ stores) formed fresh lawful widened =
         let some = find_times s block store finds in
         subst (λ b. is_root_widened (tree_in (plug c block) b (last_in (s ∷ stores) s b) (s ∷ stores)) ≡ true)
         (ap block_of (found_plug c block s store finds (omega (arith, le, some)))) w
+
+pub changes_do_lead : ChangesLead
+changes_do_lead m region [] formed fresh lawful widened = absurd cc
+changes_do_lead m region (s ∷ stores) formed fresh lawful widened = (both_laws m region s stores formed fresh lawful widened).0
+
+pub changes_go_in_turn : RemovedInTurn
+changes_go_in_turn m region [] formed fresh lawful widened = absurd cc
+changes_go_in_turn m region (s ∷ stores) formed fresh lawful widened = (both_laws m region s stores formed fresh lawful widened).1

@@ -13,8 +13,10 @@ pub mod Blocks
 pub mod Earlier
 pub mod Scan
 pub mod Left
+pub mod Removing
 pub mod Setting
 pub mod Roots
 pub mod Cutting
 pub mod Stores
+pub mod Going
 pub mod Law

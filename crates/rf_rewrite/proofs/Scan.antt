@@ -26,7 +26,7 @@ pub record AllFive (a b c d e : Bool) : Type 0 where
   pub fourth : d ≡ true
   pub fifth : e ≡ true
 
-all_five : (a b c d e : Bool) → (a && b && c && d && e) ≡ true → AllFive a b c d e
+pub all_five : (a b c d e : Bool) → (a && b && c && d && e) ≡ true → AllFive a b c d e
 all_five true true true true true h = record { first = refl; second = refl; third = refl; fourth = refl; fifth = refl }
 all_five true true true true false h = absurd cc
 all_five true true true false e h = absurd cc
@@ -87,7 +87,7 @@ users_more lanes few more grow (u ∷ us) e = by_user (is_id_in lanes u.user) (i
 module _ (m : Module) (lanes : List Id) (new block : List Inst) where
   -- ---- more goes with more
 
-  goes_more : (few more : List Id) → ((y : Id) → is_id_in few y ≡ true → is_id_in more y ≡ true) → (i : Inst) → goes_with m lanes new few i ≡ true → goes_with m lanes new more i ≡ true
+  pub goes_more : (few more : List Id) → ((y : Id) → is_id_in few y ≡ true → is_id_in more y ≡ true) → (i : Inst) → goes_with m lanes new few i ≡ true → goes_with m lanes new more i ≡ true
   goes_more few more grow i h =
       let all = all_five (may_go i.op) (not (is_id_in lanes i.id)) (some (uses_of i.id (funcs_of m.items))) (users lanes few (uses_of i.id (funcs_of m.items))) (not (uses_value i.id new)) h in
       five_all (may_go i.op) (not (is_id_in lanes i.id)) (some (uses_of i.id (funcs_of m.items))) (users lanes more (uses_of i.id (funcs_of m.items))) (not (uses_value i.id new))
@@ -115,7 +115,7 @@ module _ (m : Module) (lanes : List Id) (new block : List Inst) where
           later false s = s
       by_test false e false f r rest = rest r
 
-  going_more : (n : ℕ) (y : Id) → is_id_in (going n m lanes new block) y ≡ true → is_id_in (going (suc n) m lanes new block) y ≡ true
+  pub going_more : (n : ℕ) (y : Id) → is_id_in (going n m lanes new block) y ≡ true → is_id_in (going (suc n) m lanes new block) y ≡ true
   going_more zero y h = absurd cc
   going_more (suc n) y h = those_more (going n m lanes new block) (going (suc n) m lanes new block) (going_more n) block y h
 

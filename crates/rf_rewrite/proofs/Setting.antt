@@ -21,6 +21,8 @@ use Rattle.rf_rewrite.proofs.Window.{left, find_append, find_front, find_times, 
 use Rattle.rf_rewrite.proofs.Gone.{uses_id, Loose, LooseUse, Removable, AllRemovable, Going, without_none}
 use Rattle.rf_rewrite.proofs.Making.{IsExtract, IsKept, Kind}
 use Rattle.rf_rewrite.proofs.Trees.{once_both}
+use Rattle.rf_rewrite.specs.Removing.{among}
+use Rattle.rf_rewrite.proofs.Removing.{among_append, among_none, among_without}
 use Rattle.rf_rewrite.proofs.Scan.{users}
 use Rattle.rf_rewrite.proofs.Left.{without_append, gone_times, kept_times, fewer_times, without_agree, without_all, without_stays, moved, left_is, moved_stands, stands_moved, in_not_among, not_among_once, in_both, ids_times, times_ids_in, user_in}
 use Rattle.vx_serial.proofs.Decided.{true_false, and_left, and_right}
@@ -406,6 +408,13 @@ module _ (globals region : ℕ) (base : Id → ℕ) (c : Context) (front window 
           go there false t false e true f = removed_gone y f
           go there false t false e false f = let written = s.covers y there e f in let none = not_moved y there t in absurd (omega (arith, written, none))
 
+  written_stays : (y : Id) → 1 ≤ times y ws → is_id_in ds y ≡ false
+  written_stays y some = by_test (is_id_in ds y) refl
+    where
+      by_test : (b : Bool) → is_id_in ds y ≡ b → b ≡ false
+      by_test true h = let none = (removed y h).unwritten in absurd (omega (arith, none, some))
+      by_test false h = refl
+
   pub leaves : without ds after ≡ without gone front ++ (ws ++ without gone (x ∷ zs))
   leaves =
       without_append ds front (remains ++ (ws ++ x ∷ zs))
@@ -416,10 +425,17 @@ module _ (globals region : ℕ) (base : Id → ℕ) (c : Context) (front window 
       ∙ without_append ds ws (x ∷ zs)
       ∙ ap (λ u. u ++ without ds (x ∷ zs)) (without_stays ds ws written_stays)
       ∙ ap (λ u. ws ++ u) (outside_agree (x ∷ zs) (λ z h. (lane_window z h).1)))
+
+  -- those that are removed stand in the block as they stood
+  pub among_after : among ds after ≡ among ds block
+  among_after =
+      among_append ds front (remains ++ (ws ++ x ∷ zs))
+      ∙ ap (λ u. among ds front ++ u) (
+      among_append ds remains (ws ++ x ∷ zs)
+      ∙ ap (λ u. u ++ among ds (ws ++ x ∷ zs)) (among_without ds (moved globals region lanes ws) window taken_stays)
+      ∙ ap (λ u. among ds window ++ u) (among_append ds ws (x ∷ zs) ∙ ap (λ u. u ++ among ds (x ∷ zs)) (among_none ds ws written_stays))
+      ∙ sym (among_append ds window (x ∷ zs)))
+      ∙ sym (among_append ds front (window ++ x ∷ zs))
     where
-      written_stays : (y : Id) → 1 ≤ times y ws → is_id_in ds y ≡ false
-      written_stays y some = by_test (is_id_in ds y) refl
-        where
-          by_test : (b : Bool) → is_id_in ds y ≡ b → b ≡ false
-          by_test true h = let none = (removed y h).unwritten in absurd (omega (arith, none, some))
-          by_test false h = refl
+      taken_stays : (y : Id) → 1 ≤ times y window → is_id_in (moved globals region lanes ws) y ≡ true → is_id_in ds y ≡ false
+      taken_stays y some t = written_stays y (moved_stands globals region lanes ws y t)

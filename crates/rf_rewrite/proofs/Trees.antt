@@ -40,7 +40,7 @@ use Rattle.rf_rewrite.proofs.Facts.{append_none}
 
 -- ---- booleans and lists
 
-false_of_not : (b : Bool) → not b ≡ false → b ≡ true
+pub false_of_not : (b : Bool) → not b ≡ false → b ≡ true
 false_of_not true e = refl
 false_of_not false e = absurd cc
 
@@ -63,17 +63,17 @@ among_any : (x : Id) (l : List Inst) → list_any (same_id x) (ids_of l) ≡ lis
 among_any x [] = refl
 among_any x (i ∷ l) = ap (λ b. b || list_any (same_id x) (ids_of l)) (swapped x i.id) ∙ ap (λ b. same_id i.id x || b) (among_any x l)
 
-repeated_once : (l : List Inst) → are_repeated l ≡ false → AreOnce (ids_of l)
+pub repeated_once : (l : List Inst) → are_repeated l ≡ false → AreOnce (ids_of l)
 repeated_once [] e = tt
 repeated_once (i ∷ l) e = (among_any i.id l ∙ or_left (is_among l i) (are_repeated l) e, repeated_once l (or_right (is_among l i) (are_repeated l) e))
 
-joined_append : (bs cs : List (List Id)) → joined (bs ++ cs) ≡ joined bs ++ joined cs
+pub joined_append : (bs cs : List (List Id)) → joined (bs ++ cs) ≡ joined bs ++ joined cs
 joined_append [] cs = refl
 joined_append (b ∷ bs) cs = ap (λ u. b ++ u) (joined_append bs cs) ∙ sym (append_assoc b (joined bs) (joined cs))
 
 -- ---- causes
 
-causes_none : (rs : List (Bool × Cause)) → first_cause rs ≡ None → Every (λ (r : Bool × Cause). r.0 ≡ false) rs
+pub causes_none : (rs : List (Bool × Cause)) → first_cause rs ≡ None → Every (λ (r : Bool × Cause). r.0 ≡ false) rs
 causes_none [] e = tt
 causes_none (r ∷ rs) e = by_test r.0 e (causes_none rs)
   where
@@ -102,7 +102,7 @@ module _ (globals : ℕ) (base : Id → ℕ) (m : Module) (block : List Inst) (l
     pub ident : IdentKnown base n.how
     pub widens : LanesOk n.how n.lanes
 
-  lane_inst : (o : Opd) (k : LaneOk o) → inst_of block o ≡ Some k.inst
+  pub lane_inst : (o : Opd) (k : LaneOk o) → inst_of block o ≡ Some k.inst
   lane_inst o k = ap (inst_of block) k.value ∙ k.stands
 
   kind_removable : (o : Op) → is_kind o ≡ true → (is_phi o ≡ false) × (is_alloca o ≡ false) × (is_terminator o ≡ false)
@@ -149,7 +149,7 @@ module _ (globals : ℕ) (base : Id → ℕ) (m : Module) (block : List Inst) (l
   widen_removable true i e = store_removable i.op e
   widen_removable false i e = kind_removable i.op (and_left (is_kind i.op) (is_scalar i.ty) e)
 
-  lanes_ok : (root : Bool) (lanes : List Opd) → list_all (λ o. is_there (inst_of block o)) lanes ≡ true → list_all (may_widen root) (insts_of block lanes) ≡ true →
+  pub lanes_ok : (root : Bool) (lanes : List Opd) → list_all (λ o. is_there (inst_of block o)) lanes ≡ true → list_all (may_widen root) (insts_of block lanes) ≡ true →
       list_all (is_among (looked_at block last)) (insts_of block lanes) ≡ true → Every LaneOk lanes
   lanes_ok root [] a b c = tt
   lanes_ok root (Lit l ∷ os) a b c = absurd cc
@@ -227,7 +227,7 @@ module _ (globals : ℕ) (base : Id → ℕ) (m : Module) (block : List Inst) (l
     pub once : AreOnce (joined (bundles_of block tree))
     pub ordered : (bundles_of block tree ≡ []) ⊎ (is_none (order m block last (bundles_of block tree)) ≡ false)
 
-  bundles_append : (xs ys : List Node) → bundles_of block (xs ++ ys) ≡ bundles_of block xs ++ bundles_of block ys
+  pub bundles_append : (xs ys : List Node) → bundles_of block (xs ++ ys) ≡ bundles_of block xs ++ bundles_of block ys
   bundles_append [] ys = refl
   bundles_append (n ∷ xs) ys = by_test (is_widened n.how) (bundles_append xs ys)
     where
@@ -324,7 +324,7 @@ module _ (globals : ℕ) (base : Id → ℕ) (m : Module) (block : List Inst) (l
 
   -- ---- one more node
 
-  legal_ok : (tree : List Node) (lanes : List Opd) → TreeOk tree → Every (Known globals base) lanes → TreeOk (tree ++ node lanes (legal m block last tree lanes) ∷ [])
+  pub legal_ok : (tree : List Node) (lanes : List Opd) → TreeOk tree → Every (Known globals base) lanes → TreeOk (tree ++ node lanes (legal m block last tree lanes) ∷ [])
   legal_ok tree lanes t k = by_reuse (reused 0 lanes tree) (identity m block lanes) refl (first_cause (causes m block last tree lanes (insts_of block lanes))) refl
     where
       by_reuse : (r : Option ℕ) (i : Option Id) → identity m block lanes ≡ i → (c : Option Cause) → first_cause (causes m block last tree lanes (insts_of block lanes)) ≡ c →
@@ -339,7 +339,7 @@ module _ (globals : ℕ) (base : Id → ℕ) (m : Module) (block : List Inst) (l
   AllKnown : List Opd → Type 0
   AllKnown os = Every (Known globals base) os
 
-  lanes_insts : (os : List Opd) → Every (λ (i : Inst). Every (Known globals base) i.opds) (insts_of block os)
+  pub lanes_insts : (os : List Opd) → Every (λ (i : Inst). Every (Known globals base) i.opds) (insts_of block os)
   lanes_insts [] = tt
   lanes_insts (Lit l ∷ os) = lanes_insts os
   lanes_insts (Sym g ∷ os) = lanes_insts os
@@ -365,20 +365,20 @@ module _ (globals : ℕ) (base : Id → ℕ) (m : Module) (block : List Inst) (l
       by_opd None e rest = rest
       by_opd (Some o) e rest = (got i.opds k o h.0 e, rest)
 
-  slots_known : (k n : ℕ) (is : List Inst) → Every (λ (i : Inst). Every (Known globals base) i.opds) is → Every (Every (Known globals base)) (slots_from k n is)
+  pub slots_known : (k n : ℕ) (is : List Inst) → Every (λ (i : Inst). Every (Known globals base) i.opds) is → Every (Every (Known globals base)) (slots_from k n is)
   slots_known k zero is h = tt
   slots_known k (suc n) is h = (slot_known k is h, slots_known (suc k) n is h)
 
   -- ---- visits
 
-  abbrev KeepsOk : Visit → Type 0
+  abbrev pub KeepsOk : Visit → Type 0
   KeepsOk f = (tree : List Node) (lanes : List Opd) → TreeOk tree → Every (Known globals base) lanes → TreeOk (f tree lanes)
 
-  all_ok : (f : Visit) → KeepsOk f → (slots : List (List Opd)) (tree : List Node) (numbers : List ℕ) → Every (Every (Known globals base)) slots → TreeOk tree → TreeOk (visit_all f slots tree numbers).0
+  pub all_ok : (f : Visit) → KeepsOk f → (slots : List (List Opd)) (tree : List Node) (numbers : List ℕ) → Every (Every (Known globals base)) slots → TreeOk tree → TreeOk (visit_all f slots tree numbers).0
   all_ok f keeps [] tree numbers h t = t
   all_ok f keeps (lanes ∷ more) tree numbers h t = all_ok f keeps more (f tree lanes) (numbers ++ length tree ∷ []) h.1 (keeps tree lanes t h.0)
 
-  slots_bundles : (n : ℕ) (slots : List ℕ) (ns : List Node) → bundles_of block (with_slots n slots ns) ≡ bundles_of block ns
+  pub slots_bundles : (n : ℕ) (slots : List ℕ) (ns : List Node) → bundles_of block (with_slots n slots ns) ≡ bundles_of block ns
   slots_bundles n slots [] = refl
   slots_bundles zero slots (x ∷ xs) = refl
   slots_bundles (suc n) slots (x ∷ xs) = ap (λ bs. cond (is_widened x.how) (ids_of (insts_of block x.lanes) ∷ bs) bs) (slots_bundles n slots xs)
@@ -388,14 +388,14 @@ module _ (globals : ℕ) (base : Id → ℕ) (m : Module) (block : List Inst) (l
   slots_nodes zero slots (x ∷ xs) h = (record { lanes = h.0.lanes; ident = h.0.ident; widens = h.0.widens }, h.1)
   slots_nodes (suc n) slots (x ∷ xs) h = (h.0, slots_nodes n slots xs h.1)
 
-  slots_ok : (n : ℕ) (slots : List ℕ) (tree : List Node) → TreeOk tree → TreeOk (with_slots n slots tree)
+  pub slots_ok : (n : ℕ) (slots : List ℕ) (tree : List Node) → TreeOk tree → TreeOk (with_slots n slots tree)
   slots_ok n slots tree t = record {
     nodes = slots_nodes n slots tree t.nodes;
     once = subst (λ bs. AreOnce (joined bs)) (sym (slots_bundles n slots tree)) t.once;
     ordered = subst (λ bs. (bs ≡ []) ⊎ (is_none (order m block last bs) ≡ false)) (sym (slots_bundles n slots tree)) t.ordered;
   }
 
-  visited_ok : (f : Visit) → KeepsOk f → (slots : List (List Opd)) → Every (Every (Known globals base)) slots → (tree : List Node) (lanes : List Opd) (how : How) →
+  pub visited_ok : (f : Visit) → KeepsOk f → (slots : List (List Opd)) → Every (Every (Known globals base)) slots → (tree : List Node) (lanes : List Opd) (how : How) →
       TreeOk (tree ++ node lanes how ∷ []) → TreeOk (visited f slots tree lanes how)
   visited_ok f keeps slots h tree lanes Widen t =
       slots_ok (length tree) (visit_all f slots (tree ++ node lanes Widen ∷ []) []).1 (visit_all f slots (tree ++ node lanes Widen ∷ []) []).0
@@ -404,13 +404,13 @@ module _ (globals : ℕ) (base : Id → ℕ) (m : Module) (block : List Inst) (l
   visited_ok f keeps slots h tree lanes (Ident v) t = t
   visited_ok f keeps slots h tree lanes (Pack c) t = t
 
-  visit_ok : (n : ℕ) → KeepsOk (visit n m block last)
+  pub visit_ok : (n : ℕ) → KeepsOk (visit n m block last)
   visit_ok zero tree lanes t k = t
   visit_ok (suc n) tree lanes t k =
       visited_ok (visit n m block last) (visit_ok n) (slots_from 0 (slot_count (insts_of block lanes)) (insts_of block lanes))
       (slots_known 0 (slot_count (insts_of block lanes)) (insts_of block lanes) (lanes_insts lanes)) tree lanes (legal m block last tree lanes) (legal_ok tree lanes t k)
 
-  empty_ok : TreeOk []
+  pub empty_ok : TreeOk []
   empty_ok = record { nodes = tt; once = tt; ordered = inl refl }
 
   pub tree_ok : (stores : List Id) → Every (Known globals base) (values_of stores) → TreeOk (tree_in m block last stores)

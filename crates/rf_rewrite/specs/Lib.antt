@@ -1,2 +1,3 @@
 -- What laws of rewriting speak of.
 pub mod Rewritten
+pub mod Removing

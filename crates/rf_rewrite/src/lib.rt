@@ -6,4 +6,4 @@
 
 mod laws;
 
-pub use laws::changes_lead;
+pub use laws::{changes_lead, gone_are, removed_in_turn};

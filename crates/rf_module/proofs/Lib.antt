@@ -1,0 +1,4 @@
+-- Why rewritten modules are formed.
+pub mod Lines
+pub mod Exchange
+pub mod Exchanged
