@@ -21,7 +21,7 @@ use Rattle.ir_types.specs.Walks.{targets_at, IsWalk, EndsAt, EndsFrom}
 use Rattle.ir_types.specs.Available.{same_id, op_targets, block_targets, graph_of, Each, is_param, defines, insts_of, insts_at, stands_from, stands_on, walk_end, before_use, IsAvailableAt, IsAvailableOpd, IsAvailableInst, IsAvailableBlock, IsAvailableFunc, IsAvailableItem}
 use Rattle.ir_types.specs.Typed.{IsTyped}
 use Rattle.ir_types.specs.Formed.{given_ty, value_ty, opd_ty, is_phi, is_alloca, EndsOnce, PhisFirst, IsTarget, IsIncoming, IsCalling, IsFormedInst, IsFormedBlock, IsFormedFunc, IsFormedItem, IsPlainInst, IsPlainBlock, IsPlainFunc, IsPlainItem, function_names, ids_of, IsFormed}
-use Rattle.ir_types.proofs.Formed.{Every, every_of_all, every_of_each, every_at, IsThere, typed_there, opds_there}
+use Rattle.ir_types.proofs.Formed.{Every, every_of_all, every_of_each, every_at, every_more, IsThere, typed_there, opds_there}
 use Rattle.ir_types.proofs.Among.{same_is, same_itself}
 use Rattle.vx_view.specs.Answers.{find, funcs_of, uses_of, uses_in, uses_in_blocks, slots_from, is_value}
 use Rattle.vx_serial.proofs.Decided.{true_false}
@@ -44,11 +44,7 @@ all_of_every P (x ∷ xs) h zero d less = h.0
 all_of_every P (x ∷ xs) h (suc k) d less = all_of_every P xs h.1 k d (omega (arith, less))
 
 every_swap : {A : Type 0} (P Q : A → Type 0) (xs ys : List A) (x y : A) → ((z : A) → P z → Q z) → Q y → Every P (xs ++ x ∷ ys) → Every Q (xs ++ y ∷ ys)
-every_swap P Q [] ys x y f q h = (q, more ys h.1)
-  where
-    more : (zs : List A) → Every P zs → Every Q zs
-    more [] g = tt
-    more (z ∷ zs) g = (f z g.0, more zs g.1)
+every_swap P Q [] ys x y f q h = (q, every_more P Q f ys h.1)
 every_swap P Q (w ∷ xs) ys x y f q h = (f w h.0, every_swap P Q xs ys x y f q h.1)
 
 -- a member is another one, or the one in the place
@@ -612,10 +608,8 @@ module _ (c : Context) (l k : List Inst) (start : Known) (x : Exchange c l k sta
       by_number (suc j) z (a ∷ rest_walk) v ends =
           later (is_param y g) (stands_from g y (length front) a rest_walk) (stands_last g y (length front) a rest_walk number ends (ap (defines y) taken ∙ times_defines y front (omega (arith, z))))
 
-  available_own : IsAvailableBlock g number (block_with c k)
-  available_own q i at slot (Lit a) s = tt
-  available_own q i at slot (Sym a) s = tt
-  available_own q i at slot (Val y) s = by_parts (parts_get k q i at).0 (parts_get k q i at).1
+  own_value : (q : ℕ) (i : Inst) → slice_get k q ≡ Some i → (slot : ℕ) (y : Id) → slice_get i.opds slot ≡ Some (Val y) → IsAvailableOpd g number q i slot (Val y)
+  own_value q i at slot y s = by_parts (parts_get k q i at).0 (parts_get k q i at).1
     where
       some_is : {a d : ℕ} → Some a ≡ Some d → a ≡ d
       some_is r = cc
@@ -637,12 +631,20 @@ module _ (c : Context) (l k : List Inst) (start : Known) (x : Exchange c l k sta
               there : IsThere (after p.front start y)
               there = there_at (after p.front start) i.opds slot y s (typed_there old f.ret i.op i.ty (map (ty_by old f number (after p.front start)) i.opds) ok.typed ok.calling)
 
-              by_ty : (o : Option Ty) → after p.front start y ≡ o → IsThere o → IsAvailableOpd g number q i slot (Val y)
-              by_ty None e h = elim h [ ]
-              by_ty (Some t) e h end w =
+              at_end : (t : Ty) → after p.front start y ≡ Some t → IsAvailableOpd g number q i slot (Val y)
+              at_end t e end w =
                   let same : number ≡ end = some_is (sym (plain_end i.op slot number plain) ∙ w) in
                   subst (λ n. IsAvailableAt g y n end) (long ∙ sym (plain_before i.op (insts_at g end) q plain))
                   (subst (IsAvailableAt g y (length p.front)) same (on_known p.front p.rest i p.are y t e))
+
+              by_ty : (o : Option Ty) → after p.front start y ≡ o → IsThere o → IsAvailableOpd g number q i slot (Val y)
+              by_ty None e h = elim h [ ]
+              by_ty (Some t) e h = at_end t e
+
+  available_own : IsAvailableBlock g number (block_with c k)
+  available_own q i at slot (Lit a) s = tt
+  available_own q i at slot (Sym a) s = tt
+  available_own q i at slot (Val y) s = own_value q i at slot y s
 
   available_new : IsAvailableFunc g
   available_new n b e = by_number (nat_eq n number) refl
@@ -703,11 +705,11 @@ module _ (c : Context) (l k : List Inst) (start : Known) (x : Exchange c l k sta
       twice true t few = omega (arith, few, some)
       twice false t few = cc
   pairs_apart (y ∷ ys) le (suc i) zero d less more e = omega (arith, less)
-  pairs_apart (y ∷ ys) le (suc i) (suc j) d less more e = pairs_apart ys (λ v. fewer (same_id y v) (le v)) i j d (omega (arith, less)) (omega (arith, more)) e
+  pairs_apart (y ∷ ys) le (suc i) (suc j) d less more e = pairs_apart ys (λ v. fewer v (same_id y v) (le v)) i j d (omega (arith, less)) (omega (arith, more)) e
     where
-      fewer : {v : Id} (b : Bool) → cond b (1 + id_times v ys) (id_times v ys) ≤ 1 → id_times v ys ≤ 1
-      fewer true few = omega (arith, few)
-      fewer false few = few
+      fewer : (v : Id) (b : Bool) → cond b (1 + id_times v ys) (id_times v ys) ≤ 1 → id_times v ys ≤ 1
+      fewer v true few = omega (arith, few)
+      fewer v false few = few
 
   pub formed_new : IsFormed (plug c k)
   formed_new = record {

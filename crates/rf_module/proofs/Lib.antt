@@ -2,3 +2,4 @@
 pub mod Lines
 pub mod Exchange
 pub mod Exchanged
+pub mod Links

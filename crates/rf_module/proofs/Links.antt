@@ -207,7 +207,7 @@ module _ (m : Module) (block : List Inst) (last : Id) where
     pub first : Node
     pub rest : List Node
     pub are : now ≡ tree ++ first ∷ rest
-    pub lanes : first.lanes ≡ lanes
+    pub has : first.lanes ≡ lanes
     pub complete : AllComplete now (length tree) (first ∷ rest)
 
   -- visits of slots one after another
@@ -220,8 +220,8 @@ module _ (m : Module) (block : List Inst) (last : Id) where
     pub leads : Lead now slots new
 
   length_append : (xs ys : List Node) → length (xs ++ ys) ≡ length xs + length ys
-  length_append [] ys = refl
-  length_append (x ∷ xs) ys = ap suc (length_append xs ys)
+  length_append [] ys = omega (arith)
+  length_append (x ∷ xs) ys = let rest = length_append xs ys in omega (arith, rest)
 
   get_there : (xs ys : List Node) (n : Node) → slice_get (xs ++ n ∷ ys) (length xs) ≡ Some n
   get_there [] ys n = refl
@@ -252,9 +252,9 @@ module _ (m : Module) (block : List Inst) (last : Id) where
         let sum = long (joined (bundles_of block xs)) (joined (bundles_of block ys)) in
         omega (arith, all, sum)
       where
-        long : (as bs : List Id) → length (as ++ bs) ≡ length as + length bs
-        long [] bs = refl
-        long (a ∷ as) bs = ap suc (long as bs)
+        long : (xs ys : List Id) → length (xs ++ ys) ≡ length xs + length ys
+        long [] ys = omega (arith)
+        long (x ∷ xs) ys = let rest = long xs ys in omega (arith, rest)
 
     -- no more lanes are taken than the block has instructions
     tally_few : (tree : List Node) → Ok tree → tally tree ≤ length block
@@ -288,7 +288,7 @@ module _ (m : Module) (block : List Inst) (last : Id) where
                 (subst (λ j. AllComplete end j r.more) (ap length g.are ∙ length_append tree (g.first ∷ g.rest)) r.complete);
             new = length tree ∷ r.new;
             numbers_are = r.numbers_are ∙ numbers_append numbers (length tree) r.new;
-            leads = ((g.first, ap (λ t. slice_get t (length tree)) whole ∙ get_there tree (g.rest ++ r.more) g.first, g.lanes), r.leads);
+            leads = ((g.first, ap (λ t. slice_get t (length tree)) whole ∙ get_there tree (g.rest ++ r.more) g.first, g.has), r.leads);
           }
             where
               whole : end ≡ tree ++ ((g.first ∷ g.rest) ++ r.more)
@@ -314,7 +314,7 @@ module _ (m : Module) (block : List Inst) (last : Id) where
       first = node lanes how;
       rest = [];
       are = refl;
-      lanes = refl;
+      has = refl;
       complete = (
         record { told = ap (λ t. legal m block last t lanes) (take_whole tree (node lanes how ∷ [])) ∙ e; leads = λ t. absurd (true_false (sym t ∙ w)) },
         tt,
@@ -328,9 +328,9 @@ module _ (m : Module) (block : List Inst) (last : Id) where
     widened_tally : (tree : List Node) (lanes : List Opd) → Ok (tree ++ node lanes Widen ∷ []) → legal m block last tree lanes ≡ Widen → suc (tally tree) ≤ tally (tree ++ node lanes Widen ∷ [])
     widened_tally tree lanes ok e = by_lanes (never_empty tree lanes e)
       where
-        long : (as bs : List Id) → length (as ++ bs) ≡ length as + length bs
-        long [] bs = refl
-        long (a ∷ as) bs = ap suc (long as bs)
+        long : (xs ys : List Id) → length (xs ++ ys) ≡ length xs + length ys
+        long [] ys = omega (arith)
+        long (x ∷ xs) ys = let rest = long xs ys in omega (arith, rest)
 
         last_ok : (xs : List Node) (n : Node) → Every (NodeOk globals base m block last based operands) (xs ++ n ∷ []) → NodeOk globals base m block last based operands n
         last_ok [] n h = h.0
@@ -379,7 +379,7 @@ module _ (m : Module) (block : List Inst) (last : Id) where
               first = filled;
               rest = g.more;
               are = is;
-              lanes = refl;
+              has = refl;
               complete = (
                 record {
                   told = ap (λ t. legal m block last (take (length tree) t) lanes) is ∙ ap (λ t. legal m block last t lanes) (take_whole tree (filled ∷ g.more)) ∙ e;

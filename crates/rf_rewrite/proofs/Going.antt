@@ -16,13 +16,13 @@ use Rattle.vx_serial.specs.Bundles.{AreOnce}
 use Rattle.vx_serial.specs.Legal.{ids_of}
 use Rattle.vx_serial.specs.Rewriting.{is_id_in, some, uses_value, may_go, goes_with, those_gone, going}
 use Rattle.rf_rewrite.specs.Removing.{among, GoesNext, GoInTurn, is_either, NoMoreGo, AllStand, GoneAre}
-use Rattle.rf_rewrite.proofs.Contexts.{Context, plug, one_of, times, times_append, around, place_of, found_plug}
-use Rattle.rf_rewrite.proofs.Parts.{NoneAround, no_uses_plug, none_around, all_append}
+use Rattle.rf_rewrite.proofs.Contexts.{Context, plug, one_of, times, times_append, around}
+use Rattle.rf_rewrite.proofs.Parts.{NoneAround, no_uses_plug, none_around, all_append, split_found}
 use Rattle.rf_rewrite.proofs.Window.{find_append, find_times, find_id}
 use Rattle.rf_rewrite.proofs.Gone.{uses_id, NoneUses, unused_in, other_times}
 use Rattle.rf_rewrite.proofs.Scan.{AllFive, all_five, users, goes_more, going_more}
 use Rattle.rf_rewrite.proofs.Left.{user_in}
-use Rattle.rf_rewrite.proofs.Blocks.{times_few, here_of}
+use Rattle.rf_rewrite.proofs.Blocks.{times_few}
 use Rattle.rf_rewrite.proofs.Facts.{some_is}
 use Rattle.vx_serial.proofs.Decided.{true_false}
 
@@ -267,21 +267,8 @@ module _ (c : Context) (block : List Inst) (formed : IsFormed (plug c block)) (l
 -- ---- the law
 
 pub gone_in_turn : GoneAre
-gone_in_turn m s stores lanes new gone formed lawful =
-    let h = here_of m s stores formed lawful in
+gone_in_turn m x s lanes new gone formed found_is stand =
+    let at = split_found m x s found_is in
     subst
-    (λ n. IsFormed n → AllStand lanes (block_of (found n s)) → GoInTurn n lanes new (block_of (found n s)) gone → NoMoreGo n lanes new (block_of (found n s)) gone →
-    going (length (block_of (found n s))) n lanes new (block_of (found n s)) ≡ ids_of (among gone (block_of (found n s))))
-    h.whole
-    (λ f. in_context h.context h.insts f h.store h.finds) formed
-  where
-    in_context : (c : Context) (block : List Inst) → IsFormed (plug c block) → (store : Inst) → find s block ≡ Some store →
-        AllStand lanes (block_of (found (plug c block) s)) → GoInTurn (plug c block) lanes new (block_of (found (plug c block) s)) gone → NoMoreGo (plug c block) lanes new (block_of (found (plug c block) s)) gone →
-        going (length (block_of (found (plug c block) s))) (plug c block) lanes new (block_of (found (plug c block) s)) ≡ ids_of (among gone (block_of (found (plug c block) s)))
-    in_context c block f store finds =
-        let le = times_few c block f s in
-        let some = find_times s block store finds in
-        subst
-        (λ b. AllStand lanes b → GoInTurn (plug c block) lanes new b gone → NoMoreGo (plug c block) lanes new b gone → going (length b) (plug c block) lanes new b ≡ ids_of (among gone b))
-        (sym (ap block_of (found_plug c block s store finds (omega (arith, le, some)))))
-        (gone_here c block f lanes new gone)
+    (λ n. IsFormed n → GoInTurn n lanes new s.block gone → NoMoreGo n lanes new s.block gone → going (length s.block) n lanes new s.block ≡ ids_of (among gone s.block))
+    at.whole (λ f. gone_here at.context s.block f lanes new gone stand) formed

@@ -11,7 +11,7 @@ use Rattle.ir_types.specs.declared.module.Module.{Module}
 use Rattle.ir_types.specs.Formed.{IsFormed, IsFresh, IsLawful}
 use Rattle.vx_view.specs.declared.change.Change.{Change}
 use Rattle.vx_view.specs.declared.change.Change.TheVariants.{Remove}
-use Rattle.vx_view.specs.Answers.{find, found, after, is_value}
+use Rattle.vx_view.specs.Answers.{find, found, Standing, after, is_value}
 use Rattle.vx_view.specs.Addresses.{block_of}
 use Rattle.vx_serial.specs.declared.node.Node.{Node}
 use Rattle.vx_serial.specs.Window.{id, order}
@@ -50,12 +50,11 @@ NoMoreGo m lanes new block gone =
 abbrev pub AllStand : List Id → List Inst → Type 0
 AllStand ids block = (x : Id) → is_id_in ids x ≡ true → (i : Inst) × (find x block ≡ Some i)
 
--- the law: these are what goes, in the order of the block
+-- the law: where an instruction is found in a formed module, these are what goes of its block, in the order of the block
 abbrev pub GoneAre : Type 0
 GoneAre =
-    (m : Module) (s : Id) (stores lanes : List Id) (new : List Inst) (gone : List Id) → IsFormed m → IsLawful m (s ∷ stores) → AllStand lanes (block_of (found m s)) →
-    GoInTurn m lanes new (block_of (found m s)) gone → NoMoreGo m lanes new (block_of (found m s)) gone →
-    going (length (block_of (found m s))) m lanes new (block_of (found m s)) ≡ ids_of (among gone (block_of (found m s)))
+    (m : Module) (x : Id) (s : Standing) (lanes : List Id) (new : List Inst) (gone : List Id) → IsFormed m → found m x ≡ Some s → AllStand lanes s.block →
+    GoInTurn m lanes new s.block gone → NoMoreGo m lanes new s.block gone → going (length s.block) m lanes new s.block ≡ ids_of (among gone s.block)
 
 -- ---- what is removed
 

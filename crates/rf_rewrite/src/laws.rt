@@ -11,7 +11,7 @@ pub fn changes_lead()
     ensures { ChangesLead }
 {}
 
-/// Where lawful stores stand in a formed module: ids of their block that go in turn, with which no other instruction goes, are what goes.
+/// Where an instruction stands in a formed module: ids of its block that go in turn, with which no other instruction goes, are what goes.
 pub fn gone_are()
     ensures { GoneAre }
 {}
