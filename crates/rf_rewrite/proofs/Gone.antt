@@ -188,7 +188,7 @@ greatest_with m x xs u (Some y) e all = by_less (is_less_id x y) refl
     }
 
 -- what the greatest is, where there is one
-greatest_all : (m : Module) (ds : List Id) (y : Id) → greatest_unused m ds ≡ Some y → (is_id_in ds y ≡ true) × (is_unused m y ≡ true)
+pub greatest_all : (m : Module) (ds : List Id) (y : Id) → greatest_unused m ds ≡ Some y → (is_id_in ds y ≡ true) × (is_unused m y ≡ true)
 greatest_all m [] y e = absurd cc
 greatest_all m (x ∷ xs) y e = by_test (is_unused m x) refl e (greatest_all m xs)
   where
@@ -253,7 +253,7 @@ other_gone d (x ∷ xs) o = by_test (same_id d x) refl (other_gone d xs o.1)
     by_test true t r = subst (λ z. is_id_in xs z ≡ false) (sym (same_is d x t)) o.0
     by_test false t r = ap (λ b. b || is_id_in (other_than d xs) d) t ∙ r
 
-pub other_length : (d : Id) (ds : List Id) → is_id_in ds d ≡ true → suc (length (other_than d ds)) ≡ length ds
+other_length : (d : Id) (ds : List Id) → is_id_in ds d ≡ true → suc (length (other_than d ds)) ≡ length ds
 other_length d [] h = absurd cc
 other_length d (x ∷ xs) h = by_test (same_id d x) h (other_length d xs)
   where

@@ -1,7 +1,7 @@
 -- The changes of a region lead to the module in which it is rewritten.
 use Rattle.std.proofs.Common.{◌≡◌, refl, sym, ap, ◌∙◌, subst, ℕ, suc, ◌+◌, ◌-◌, ◌<◌, ◌≤◌, ◌⊎◌, inl, inr, Bool, true, false, ◌&&◌, ◌||◌, Option, None, Some, List, [], ◌∷◌, ◌++◌, map, cond, nat_eq, option_map, arith, length, append_assoc}
 use Rattle.std.specs.Prelude.{is_none}
-use Rattle.std.specs.List.{list_any}
+use Rattle.std.specs.List.{list_any, list_all}
 use Rattle.std.proofs.lemmas.Bool.Decides.{nat_tests}
 use Rattle.ir_types.specs.declared.id.Id.{Id}
 use Rattle.ir_types.specs.declared.inst.Inst.{Inst}
@@ -21,34 +21,38 @@ use Rattle.vx_serial.specs.declared.node.Node.{Node}
 use Rattle.vx_serial.specs.Window.{is_member, up_to, from_member, window, order_in, order, joined}
 use Rattle.vx_serial.specs.Bundles.{ids_of, AreBundles}
 use Rattle.vx_serial.specs.Near.{looked_at}
-use Rattle.vx_serial.specs.Legal.{bundles_of}
-use Rattle.vx_serial.specs.Tree.{last_in, tree_in, tree_of}
+use Rattle.vx_serial.specs.Legal.{bundles_of, insts_of, inst_of, is_there, reused, identity, causes, first_cause, packed, or_else}
+use Rattle.vx_serial.specs.Tree.{values_of, slot_count, slots_from, visit, visited, last_in, tree_in, tree_of}
 use Rattle.vx_serial.specs.Rewriting.{start, is_created, is_id_in, without, joined_ids, before_member, after_inst, written, only_created, uses_value, going, Plan, new_insts, plan_of, is_wanted, rewritten_by, rewritten_in, rewritten}
 use Rattle.vx_serial.specs.Changing.{steps, removals, not_among, before_next, changes_in, changes_of, changes}
 use Rattle.vx_serial.proofs.Places.{member_joined}
 use Rattle.rf_order.proofs.Windows.{orders_reordered}
+use Rattle.vx_serial.specs.declared.cause.Cause.{Cause}
+use Rattle.vx_serial.specs.declared.node.How.{How}
+use Rattle.vx_serial.specs.declared.node.How.TheVariants.{Reuse, Ident}
 use Rattle.rf_rewrite.specs.Rewritten.{with_insts, is_root_widened, Leads, ChangesLead}
 use Rattle.rf_rewrite.specs.Removing.{among, removal_order, changes_in_turn, RemovedInTurn}
 use Rattle.rf_rewrite.specs.Removing as in_turn
 use Rattle.rf_rewrite.proofs.Removing.{removed_in_turn}
-use Rattle.rf_rewrite.proofs.Contexts.{Context, plug, times, times_append, around, ids_plug, place_of, found_plug}
-use Rattle.rf_rewrite.proofs.Parts.{with_insts_plug, defines_found}
-use Rattle.rf_rewrite.proofs.Window.{Fine, numbers, window_is, find_append, find_front, find_times, find_id}
+use Rattle.rf_rewrite.proofs.Contexts.{Context, plug, one_of, times, times_append, around, ids_plug, place_of, found_plug}
+use Rattle.rf_rewrite.proofs.Parts.{with_insts_plug, defines_found, split_found}
+use Rattle.rf_rewrite.proofs.Window.{Fine, numbers, window_is, window_leads, find_append, find_front, find_times, find_id}
 use Rattle.rf_rewrite.proofs.Gone.{uses_id, Removable, Goes, all_go, find_some}
 use Rattle.rf_rewrite.proofs.Taking.{Takes, takes_fine, takes_without}
 use Rattle.rf_rewrite.proofs.Making.{every_map, Ready, Kind, Writes, Member, IsGroup, written_is, written_wants}
 use Rattle.rf_rewrite.proofs.Alike.{written_alike}
+use Rattle.rf_rewrite.proofs.Alongs.{written_times, along_kinds}
 use Rattle.rf_rewrite.proofs.Groups.{block_cut, has_of, member_from, any_times, once_times, reordered_times, HasFirst, order_groups, joined_is}
-use Rattle.rf_rewrite.proofs.Trees.{TreeOk, FirstSome, firsts, alone, IsLane, nodes_known}
+use Rattle.rf_rewrite.proofs.Trees.{TreeOk, FirstSome, firsts, alone, IsLane, nodes_known, causes_none, false_of_not}
 use Rattle.rf_rewrite.proofs.Blocks.{here_of, func_in, times_few, block_formed, operands_known, fresh_times, ends_front, ends_after, phis_after}
 use Rattle.rf_rewrite.proofs.Earlier.{stands_earlier}
 use Rattle.rf_rewrite.proofs.Scan.{users, Leaves, going_leaves, going_once, unwanted}
-use Rattle.rf_rewrite.proofs.Left.{without_append, gone_times, kept_times, left_is}
-use Rattle.rf_rewrite.proofs.Setting.{MayGo, Setting, leaves, after, among_after}
+use Rattle.rf_rewrite.proofs.Left.{without_append, gone_times, kept_times, fewer_times, left_is}
+use Rattle.rf_rewrite.proofs.Setting.{MayGo, Setting, leaves, after, among_after, closing}
 use Rattle.rf_rewrite.proofs.Setting.{going as going_facts}
 use Rattle.rf_rewrite.proofs.Cutting.{every_find, every_without, every_left, every_right, drop_times, among_times, up_to_has, next_is, FoundParts, found_parts, every_joined, last_among, unused_new, old_region}
 use Rattle.rf_rewrite.proofs.Stores as of_stores
-use Rattle.vx_serial.proofs.Decided.{true_false}
+use Rattle.vx_serial.proofs.Decided.{true_false, and_right}
 use Rattle.rf_rewrite.proofs.Facts.{some_is, append_none}
 
 -- ---- changes one after another
@@ -60,10 +64,6 @@ applied_append (c ∷ cs) es m = applied_append cs es (applied c m)
 fit_append : (cs es : List Change) (m : Module) → AllFit cs m → AllFit es (all_applied cs m) → AllFit (cs ++ es) m
 fit_append [] es m f g = g
 fit_append (c ∷ cs) es m f g = (f.0, fit_append cs es (applied c m) f.1 g)
-
--- the changes lead to the rewritten module, and are those that are told on lists
-abbrev Both : Module → ℕ → List Id → Type 0
-Both m region stores = Leads m region stores × (changes m region stores ≡ changes_in_turn m region stores)
 
 -- ---- the law, on a block that is cut
 
@@ -89,7 +89,7 @@ module _ (c : Context) (front ws_old : List Inst) (x : Inst) (zs : List Inst) (r
   abbrev lanes : List Id
   lanes = joined bundles
 
-  module _ (formed : IsFormed whole) (fresh : IsFresh whole region) (reached : IsReached (graph_of (func_in c block)) (length c.blocks_before))
+  module _ (formed : IsFormed whole) (old : (y : Id) → 1 ≤ times y block → nat_eq y.region (suc region) ≡ false)
       (store : Inst) (finds : find s block ≡ Some store) (each : Every (λ y. 1 ≤ times y block) (s ∷ stores)) (root : is_root_widened tree ≡ true)
       (cut_front : before_member bundles block ≡ front) (cut_window : window block last bundles ≡ ws_old) (cut_after : after_inst last block ≡ x ∷ zs) where
     few : (y : Id) → around c y + times y block ≤ 1
@@ -133,11 +133,6 @@ module _ (c : Context) (front ws_old : List Inst) (x : Inst) (zs : List Inst) (r
         let sum = times_append y front (ws_old ++ x ∷ zs) in
         let then = times_append y ws_old (x ∷ zs) in
         find_append y front (ws_old ++ x ∷ zs) (omega (arith, some, le, sum, then)) ∙ find_front y ws_old (x ∷ zs) i e
-
-    old : (y : Id) → 1 ≤ times y block → nat_eq y.region (suc region) ≡ false
-    old y some =
-        let le = old_region region y (module_ids whole) (every_of_all (λ (id : Id). id.region ≤ region) (module_ids whole) fresh) (in_base y some) in
-        grind (arith, nat_tests)
 
     -- ---- phis and terminators
 
@@ -258,18 +253,6 @@ module _ (c : Context) (front ws_old : List Inst) (x : Inst) (zs : List Inst) (r
     gone_block : (y : Id) → is_id_in gone y ≡ true → 1 ≤ times y block
     gone_block y h = let l = leaves_is y h in find_times y block l.inst l.stands
 
-    ready : Ready (length c.globals) region lanes ws_old base base 0
-    ready = record {
-      were = λ y h. h;
-      are = λ k less. absurd (omega (arith, less));
-      free = λ k le. fresh_times region k (module_ids whole) (every_of_all (λ (id : Id). id.region ≤ region) (module_ids whole) fresh);
-    }
-
-    takes : Takes (length c.globals) region lanes ws_old base (λ y. 0) rewritten_list
-    takes =
-        subst (Takes (length c.globals) region lanes ws_old base (λ y. 0)) (append_none writes.adds.new ∙ sym writes.adds.are)
-        (writes.adds.takes base (λ y. 0) ready (λ y. let same = reorder y in let le = window_few y in omega (arith, same, le)) [] (λ known now r fewer. tt))
-
     -- the new window
     abbrev ws : List Inst
     ws = without gone rewritten_list
@@ -280,10 +263,6 @@ module _ (c : Context) (front ws_old : List Inst) (x : Inst) (zs : List Inst) (r
         by_test : (b : Bool) → is_id_in gone i.id ≡ b → b ≡ false
         by_test true g = absurd (true_false (sym e ∙ old i.id (gone_block i.id g)))
         by_test false g = refl
-
-    fine : Fine (length c.globals) region lanes base ws_old ws
-    fine = takes_fine (length c.globals) region lanes ws_old ws ws_old base (λ y. 0) (λ y z. refl)
-        (takes_without (length c.globals) region lanes ws_old gone created_stays rewritten_list base (λ y. 0) (λ y. 0) (λ y. omega (arith)) takes)
 
     -- ---- the setting
 
@@ -333,7 +312,6 @@ module _ (c : Context) (front ws_old : List Inst) (x : Inst) (zs : List Inst) (r
       unused = λ y e. every_without (λ (i : Inst). is_created region i ≡ true → uses_id y i ≡ false) gone rewritten_list (unused_new region y rewritten_list (ap (uses_value y) (sym new_is) ∙ e));
       covers = λ y some lane going. let same = kept_times gone y rewritten_list going in let again = reorder y in
           let kept = writes.adds.keeps y (omega (arith, some, again)) lane in let whole_list = ap (times y) writes.adds.are in omega (arith, same, kept, whole_list);
-      earlier = λ f rest i v e p u a. stands_earlier c block formed reached f rest i v e p u a;
       old = old;
     }
 
@@ -345,32 +323,39 @@ module _ (c : Context) (front ws_old : List Inst) (x : Inst) (zs : List Inst) (r
     abbrev stepped : List Change
     stepped = steps region lanes x.id ws
 
-    led : (all_applied stepped whole ≡ plug c (after (length c.globals) region base c front ws_old x zs lanes gone new ws setting)) × AllFit stepped whole
-    led =
-        let w = window_is (length c.globals) region lanes c front x zs plain_x refl ws ws_old [] base
-        (λ y. sym (numbers (length c.globals) region lanes c front x zs plain_x refl ws_old [] y)) (λ y. let le = few y in let ids = ids_plug c block y in omega (arith, le, ids)) fine in
-        (w.0 ∙ ap (λ l. plug c (front ++ (l ++ (ws ++ x ∷ zs)))) (left_is (length c.globals) region lanes ws ws_old), w.1)
+    lane_stands : (y : Id) → is_id_in lanes y ≡ true → (i : Inst) × (find y ws_old ≡ Some i)
+    lane_stands y h = find_some y ws_old (lane_window y h)
+
+    ws_few : (y : Id) → nat_eq y.region (suc region) ≡ false → times y ws ≤ 1
+    ws_few y o =
+        let less = fewer_times gone y rewritten_list in
+        let all = written_times region y o whole wanted tree groups start in
+        let again = reorder y in
+        let le = window_few y in
+        omega (arith, less, all, again, le)
+
+    x_old : nat_eq x.id.region (suc region) ≡ false
+    x_old = old x.id (
+        let sum = times_append x.id front (ws_old ++ x ∷ zs) in
+        let then = times_append x.id ws_old (x ∷ zs) in
+        let one : one_of x.id x.id ≡ 1 = ap (λ b. cond b 1 0) (same_itself x.id) in
+        omega (arith, sum, then, one))
+
+    leads_there : all_applied stepped whole ≡ plug c (after (length c.globals) region base c front ws_old x zs lanes gone new ws setting)
+    leads_there =
+        window_leads (length c.globals) region lanes c front x zs plain_x refl ws ws_old [] x_old
+        (λ y o. let le = few y in let sum = numbers (length c.globals) region lanes c front x zs plain_x refl ws_old [] y in let ids = ids_plug c block y in omega (arith, le, sum, ids))
+        (along_kinds (length c.globals) region lanes ws_old base c front x zs plain_x refl lane_stands ws ws_old setting.kinds ws_few (λ y o some. refl))
+        ∙ ap (λ l. plug c (front ++ (l ++ (ws ++ x ∷ zs)))) (left_is (length c.globals) region lanes ws ws_old)
 
     abbrev goers : List Id
     goers = not_among (ids_of ws) lanes ++ gone
-
-    gone_all : Goes c goers (after (length c.globals) region base c front ws_old x zs lanes gone new ws setting) (length goers)
-    gone_all = all_go c (length goers) goers (after (length c.globals) region base c front ws_old x zs lanes gone new ws setting) refl (going_facts (length c.globals) region base c front ws_old x zs lanes gone new ws setting)
 
     abbrev made_changes : List Change
     made_changes = stepped ++ removals (length goers) (all_applied stepped whole) goers
 
     abbrev result : List Inst
     result = without gone front ++ (ws ++ without gone (x ∷ zs))
-
-    made_lead : (all_applied made_changes whole ≡ plug c result) × AllFit made_changes whole
-    made_lead = (
-      applied_append stepped (removals (length goers) (all_applied stepped whole) goers) whole
-          ∙ ap (λ m. all_applied (removals (length goers) m goers) m) led.0
-          ∙ gone_all.0 ∙ ap (plug c) (leaves (length c.globals) region base c front ws_old x zs lanes gone new ws setting),
-      fit_append stepped (removals (length goers) (all_applied stepped whole) goers) whole led.1
-          (subst (λ m. AllFit (removals (length goers) m goers) m) (sym led.0) gone_all.1),
-    )
 
     -- ---- as the definitions say it
 
@@ -409,8 +394,8 @@ module _ (c : Context) (front ws_old : List Inst) (x : Inst) (zs : List Inst) (r
 
     turned_are : made_changes ≡ turned
     turned_are = ap (λ r. stepped ++ r) (
-        ap (λ m. removals (length goers) m goers) led.0
-        ∙ removed_in_turn c (length goers) goers (after (length c.globals) region base c front ws_old x zs lanes gone new ws setting) refl (going_facts (length c.globals) region base c front ws_old x zs lanes gone new ws setting)
+        ap (λ m. removals (length goers) m goers) leads_there
+        ∙ removed_in_turn c (length goers) goers (after (length c.globals) region base c front ws_old x zs lanes gone new ws setting) (closing (length c.globals) region base c front ws_old x zs lanes gone new ws setting)
         ∙ ap (λ is. map Remove (removal_order (length goers) is goers)) (among_after (length c.globals) region base c front ws_old x zs lanes gone new ws setting))
 
     in_turn_are : changes_in_turn whole region (s ∷ stores) ≡ Some turned
@@ -420,23 +405,60 @@ module _ (c : Context) (front ws_old : List Inst) (x : Inst) (zs : List Inst) (r
         ∙ ap (λ p. Some (in_turn.changes_in whole region block last p)) plan_is
         ∙ ap (λ o. Some (in_turn.before_next whole region block plan o)) next_x
 
-    pub law : Both whole region (s ∷ stores)
-    law = (
-      record {
+    pub turned_law : changes whole region (s ∷ stores) ≡ changes_in_turn whole region (s ∷ stores)
+    turned_law = changes_are ∙ ap Some turned_are ∙ sym in_turn_are
+
+    -- ---- where the region's ids are new and a walk comes to the block, they fit
+
+    module _ (fresh : IsFresh whole region) (reached : IsReached (graph_of (func_in c block)) (length c.blocks_before)) where
+      ready : Ready (length c.globals) region lanes ws_old base base 0
+      ready = record {
+        were = λ y h. h;
+        are = λ k less. absurd (omega (arith, less));
+        free = λ k le. fresh_times region k (module_ids whole) (every_of_all (λ (id : Id). id.region ≤ region) (module_ids whole) fresh);
+      }
+
+      takes : Takes (length c.globals) region lanes ws_old base (λ y. 0) rewritten_list
+      takes =
+          subst (Takes (length c.globals) region lanes ws_old base (λ y. 0)) (append_none writes.adds.new ∙ sym writes.adds.are)
+          (writes.adds.takes base (λ y. 0) ready (λ y. let same = reorder y in let le = window_few y in omega (arith, same, le)) [] (λ known now r fewer. tt))
+
+      fine : Fine (length c.globals) region lanes base ws_old ws
+      fine = takes_fine (length c.globals) region lanes ws_old ws ws_old base (λ y. 0) (λ y z. refl)
+          (takes_without (length c.globals) region lanes ws_old gone created_stays rewritten_list base (λ y. 0) (λ y. 0) (λ y. omega (arith)) takes)
+
+      led : (all_applied stepped whole ≡ plug c (after (length c.globals) region base c front ws_old x zs lanes gone new ws setting)) × AllFit stepped whole
+      led =
+          let w = window_is (length c.globals) region lanes c front x zs plain_x refl ws ws_old [] base
+          (λ y. sym (numbers (length c.globals) region lanes c front x zs plain_x refl ws_old [] y)) (λ y. let le = few y in let ids = ids_plug c block y in omega (arith, le, ids)) fine in
+          (w.0 ∙ ap (λ l. plug c (front ++ (l ++ (ws ++ x ∷ zs)))) (left_is (length c.globals) region lanes ws ws_old), w.1)
+
+      gone_all : Goes c goers (after (length c.globals) region base c front ws_old x zs lanes gone new ws setting) (length goers)
+      gone_all = all_go c (length goers) goers (after (length c.globals) region base c front ws_old x zs lanes gone new ws setting) refl (going_facts (length c.globals) region base c front ws_old x zs lanes gone new ws setting (λ f rest i v e p u a. stands_earlier c block formed reached f rest i v e p u a))
+
+      made_lead : (all_applied made_changes whole ≡ plug c result) × AllFit made_changes whole
+      made_lead = (
+        applied_append stepped (removals (length goers) (all_applied stepped whole) goers) whole
+            ∙ ap (λ m. all_applied (removals (length goers) m goers) m) led.0
+            ∙ gone_all.0 ∙ ap (plug c) (leaves (length c.globals) region base c front ws_old x zs lanes gone new ws setting),
+        fit_append stepped (removals (length goers) (all_applied stepped whole) goers) whole led.1
+            (subst (λ m. AllFit (removals (length goers) m goers) m) (sym led.0) gone_all.1),
+      )
+
+      pub law : Leads whole region (s ∷ stores)
+      law = record {
         list = made_changes;
         are = changes_are;
         fit = made_lead.1;
         there =
             ap (option_map (λ insts. with_insts s insts whole)) rewritten_is
             ∙ ap Some (with_insts_plug c block result s (let le = few s in let some = find_times s block store finds in omega (arith, le, some)) (defines_found s block store finds) ∙ sym made_lead.0);
-      },
-      changes_are ∙ ap Some turned_are ∙ sym in_turn_are,
-    )
+      }
 
 -- ---- the law, on any block
 
-module _ (c : Context) (block : List Inst) (region : ℕ) (s : Id) (stores : List Id) (formed : IsFormed (plug c block)) (fresh : IsFresh (plug c block) region)
-    (reached : IsReached (graph_of (func_in c block)) (length c.blocks_before)) (store : Inst) (finds : find s block ≡ Some store) (each : Every (λ y. 1 ≤ times y block) (s ∷ stores))
+module _ (c : Context) (block : List Inst) (region : ℕ) (s : Id) (stores : List Id) (formed : IsFormed (plug c block))
+    (store : Inst) (finds : find s block ≡ Some store) (each : Every (λ y. 1 ≤ times y block) (s ∷ stores))
     (root : is_root_widened (tree_in (plug c block) block (last_in (s ∷ stores) s block) (s ∷ stores)) ≡ true) where
   abbrev last_store : Id
   last_store = last_in (s ∷ stores) s block
@@ -467,41 +489,89 @@ module _ (c : Context) (block : List Inst) (region : ℕ) (s : Id) (stores : Lis
       (has_of all_bundles last_store (up_to last_store block) (up_to_has last_store block (find_times last_store block last_inst.0 last_inst.1))
       (member_joined all_bundles last_store ∙ of_stores.store_lane c block s stores formed each root last_store last_in_stores))
 
-  abbrev Lawful : List Inst → Type 0
-  Lawful l =
-      IsFormed (plug c l) → IsFresh (plug c l) region → IsReached (graph_of (func_in c l)) (length c.blocks_before) → find s l ≡ Some store → Every (λ y. 1 ≤ times y l) (s ∷ stores) →
+  -- what holds of a list that is the block
+  abbrev CutAs : (List Inst → Type 0) → List Inst → Type 0
+  CutAs Result l =
+      IsFormed (plug c l) → ((y : Id) → 1 ≤ times y l → nat_eq y.region (suc region) ≡ false) → find s l ≡ Some store → Every (λ y. 1 ≤ times y l) (s ∷ stores) →
       is_root_widened (tree_in (plug c l) l (last_in (s ∷ stores) s l) (s ∷ stores)) ≡ true →
       before_member (bundles_of l (tree_in (plug c l) l (last_in (s ∷ stores) s l) (s ∷ stores))) l ≡ before_member all_bundles block →
       window l (last_in (s ∷ stores) s l) (bundles_of l (tree_in (plug c l) l (last_in (s ∷ stores) s l) (s ∷ stores))) ≡ window block last_store all_bundles →
-      after_inst (last_in (s ∷ stores) s l) l ≡ something.0 ∷ something.1 → Both (plug c l) region (s ∷ stores)
+      after_inst (last_in (s ∷ stores) s l) l ≡ something.0 ∷ something.1 → Result l
 
-  pub law_of_block : Both (plug c block) region (s ∷ stores)
-  law_of_block =
-      subst Lawful cut
-      (λ f r w e a t b v n. law c (before_member all_bundles block) (window block last_store all_bundles) something.0 something.1 region s stores f r w store e a t b v n)
-      formed fresh reached finds each root refl refl next_are
+  abbrev Turned : List Inst → Type 0
+  Turned l = changes (plug c l) region (s ∷ stores) ≡ changes_in_turn (plug c l) region (s ∷ stores)
 
--- ---- the law
+  abbrev Leading : List Inst → Type 0
+  Leading l = IsFresh (plug c l) region → IsReached (graph_of (func_in c l)) (length c.blocks_before) → Leads (plug c l) region (s ∷ stores)
 
-both_laws : (m : Module) (region : ℕ) (s : Id) (stores : List Id) → IsFormed m → IsFresh m region → IsLawful m (s ∷ stores) → is_root_widened (tree_of m (s ∷ stores)) ≡ true → Both m region (s ∷ stores)
-both_laws m region s stores formed fresh lawful widened =
-    let h = here_of m s stores formed lawful in
-    subst (λ n. IsFormed n → IsFresh n region → is_root_widened (tree_of n (s ∷ stores)) ≡ true → Both n region (s ∷ stores)) h.whole
-    (λ f r w. law_of_block h.context h.insts region s stores f r h.reached h.store h.finds h.each (root_of h.context h.insts f h.store h.finds w))
-    formed fresh widened
+  pub turned_of_block : ((y : Id) → 1 ≤ times y block → nat_eq y.region (suc region) ≡ false) → Turned block
+  turned_of_block old =
+      subst (CutAs Turned) cut
+      (λ f o e a t b v n. turned_law c (before_member all_bundles block) (window block last_store all_bundles) something.0 something.1 region s stores f o store e a t b v n)
+      formed old finds each root refl refl next_are
+
+  pub law_of_block : IsFresh (plug c block) region → IsReached (graph_of (func_in c block)) (length c.blocks_before) → Leads (plug c block) region (s ∷ stores)
+  law_of_block fresh reached =
+      subst (CutAs Leading) cut
+      (λ f o e a t b v n w r. law c (before_member all_bundles block) (window block last_store all_bundles) something.0 something.1 region s stores f o store e a t b v n w r)
+      formed old finds each root refl refl next_are fresh reached
+    where
+      old : (y : Id) → 1 ≤ times y block → nat_eq y.region (suc region) ≡ false
+      old y some =
+          let le = old_region region y (module_ids (plug c block)) (every_of_all (λ (id : Id). id.region ≤ region) (module_ids (plug c block)) fresh) (of_stores.in_base c block s stores formed each root y some) in
+          grind (arith, nat_tests)
+
+-- ---- a widened root has instructions of the block
+
+there_each : (block : List Inst) (xs : List Id) → list_all (λ o. is_there (inst_of block o)) (values_of xs) ≡ true → Every (λ y. 1 ≤ times y block) xs
+there_each block [] h = tt
+there_each block (y ∷ xs) h = by_find (find y block) refl h (there_each block xs)
   where
-    root_of : (c : Context) (block : List Inst) → IsFormed (plug c block) → (store : Inst) → find s block ≡ Some store → is_root_widened (tree_of (plug c block) (s ∷ stores)) ≡ true →
-        is_root_widened (tree_in (plug c block) block (last_in (s ∷ stores) s block) (s ∷ stores)) ≡ true
-    root_of c block f store finds w =
-        let le = times_few c block f s in
-        let some = find_times s block store finds in
-        subst (λ b. is_root_widened (tree_in (plug c block) b (last_in (s ∷ stores) s b) (s ∷ stores)) ≡ true)
-        (ap block_of (found_plug c block s store finds (omega (arith, le, some)))) w
+    by_find : (o : Option Inst) → find y block ≡ o → (is_there o && list_all (λ u. is_there (inst_of block u)) (values_of xs)) ≡ true →
+        (list_all (λ u. is_there (inst_of block u)) (values_of xs) ≡ true → Every (λ z. 1 ≤ times z block) xs) → (1 ≤ times y block) × Every (λ z. 1 ≤ times z block) xs
+    by_find None e r more = absurd cc
+    by_find (Some i) e r more = (find_times y block i e, more (and_right (is_there (Some i)) (list_all (λ u. is_there (inst_of block u)) (values_of xs)) r))
+
+root_each : (m : Module) (block : List Inst) (last : Id) (xs : List Id) → is_root_widened (tree_in m block last xs) ≡ true → Every (λ y. 1 ≤ times y block) xs
+root_each m block last xs w = by_reuse (reused 0 (values_of xs) []) (identity m block (values_of xs)) (first_cause (causes m block last [] (values_of xs) (insts_of block (values_of xs)))) refl w
+  where
+    by_reuse : (r : Option ℕ) (i : Option Id) (c : Option Cause) → first_cause (causes m block last [] (values_of xs) (insts_of block (values_of xs))) ≡ c →
+        is_root_widened (visited (visit (length block) m block last) (slots_from 0 (slot_count (insts_of block (values_of xs))) (insts_of block (values_of xs))) [] (values_of xs)
+        (or_else (option_map Reuse r) (or_else (option_map Ident i) (packed c)))) ≡ true → Every (λ y. 1 ≤ times y block) xs
+    by_reuse (Some n) i c e h = absurd cc
+    by_reuse None (Some v) c e h = absurd cc
+    by_reuse None None (Some d) e h = absurd cc
+    by_reuse None None None e h =
+        let all = causes_none (causes m block last [] (values_of xs) (insts_of block (values_of xs))) e in
+        there_each block xs (false_of_not (list_all (λ o. is_there (inst_of block o)) (values_of xs)) all.1.0)
+
+-- ---- the laws
+
+root_of : (c : Context) (block : List Inst) (s : Id) (stores : List Id) → IsFormed (plug c block) → (store : Inst) → find s block ≡ Some store → is_root_widened (tree_of (plug c block) (s ∷ stores)) ≡ true →
+    is_root_widened (tree_in (plug c block) block (last_in (s ∷ stores) s block) (s ∷ stores)) ≡ true
+root_of c block s stores f store finds w =
+    let le = times_few c block f s in
+    let some = find_times s block store finds in
+    subst (λ b. is_root_widened (tree_in (plug c block) b (last_in (s ∷ stores) s b) (s ∷ stores)) ≡ true)
+    (ap block_of (found_plug c block s store finds (omega (arith, le, some)))) w
 
 pub changes_do_lead : ChangesLead
 changes_do_lead m region [] formed fresh lawful widened = absurd cc
-changes_do_lead m region (s ∷ stores) formed fresh lawful widened = (both_laws m region s stores formed fresh lawful widened).0
+changes_do_lead m region (s ∷ stores) formed fresh lawful widened =
+    let h = here_of m s stores formed lawful in
+    subst (λ n. IsFormed n → IsFresh n region → is_root_widened (tree_of n (s ∷ stores)) ≡ true → Leads n region (s ∷ stores)) h.whole
+    (λ f r w. law_of_block h.context h.insts region s stores f h.store h.finds h.each (root_of h.context h.insts s stores f h.store h.finds w) r h.reached)
+    formed fresh widened
 
 pub changes_go_in_turn : RemovedInTurn
-changes_go_in_turn m region [] formed fresh lawful widened = absurd cc
-changes_go_in_turn m region (s ∷ stores) formed fresh lawful widened = (both_laws m region s stores formed fresh lawful widened).1
+changes_go_in_turn m region x stores s formed found_is none widened =
+    let at = split_found m x s found_is in
+    subst (λ n. IsFormed n → is_root_widened (tree_of n (x ∷ stores)) ≡ true → changes n region (x ∷ stores) ≡ changes_in_turn n region (x ∷ stores)) at.whole
+    (λ f w. let root = root_of at.context s.block x stores f s.inst at.finds w in
+    turned_of_block at.context s.block region x stores f s.inst at.finds (root_each (plug at.context s.block) s.block (last_in (x ∷ stores) x s.block) (x ∷ stores) root) root old)
+    formed widened
+  where
+    old : (y : Id) → 1 ≤ times y s.block → nat_eq y.region (suc region) ≡ false
+    old y some =
+        let f = find_some y s.block some in
+        ap (λ (v : Id). nat_eq v.region (suc region)) (sym (same_is f.0.id y (find_id y s.block f.0 f.1))) ∙ none y f.0 f.1

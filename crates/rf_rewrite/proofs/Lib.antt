@@ -6,6 +6,7 @@ pub mod Window
 pub mod Gone
 pub mod Taking
 pub mod Making
+pub mod Alongs
 pub mod Alike
 pub mod Groups
 pub mod Trees

@@ -7,6 +7,7 @@ use Rattle.ir_types.specs.declared.id.Use.{Use}
 use Rattle.ir_types.specs.declared.inst.Inst.{Inst}
 use Rattle.ir_types.specs.declared.module.Module.{Module}
 use Rattle.ir_types.specs.Available.{same_id}
+use Rattle.ir_types.proofs.Formed.{Every}
 use Rattle.ir_types.proofs.Among.{same_is, same_itself}
 use Rattle.vx_view.specs.declared.change.Change.{Change}
 use Rattle.vx_view.specs.declared.change.Change.TheVariants.{Remove}
@@ -15,9 +16,10 @@ use Rattle.vx_view.specs.Changes.{each, removing as removing_edit, applied}
 use Rattle.vx_serial.specs.Rewriting.{is_id_in, without, some, uses_value}
 use Rattle.vx_serial.specs.Changing.{is_unused, greater, greatest_unused, other_than, removing, removals}
 use Rattle.rf_rewrite.specs.Removing.{among, greatest_free, taking, removal_order}
-use Rattle.rf_rewrite.proofs.Contexts.{Context, plug, one_of, times}
-use Rattle.rf_rewrite.proofs.Parts.{no_uses_plug, uses_plug}
-use Rattle.rf_rewrite.proofs.Gone.{uses_id, used_by, NoneUses, unused_in, Loose, Going, Greatest, one_free, removed_there, others_go, other_in, other_was, other_length}
+use Rattle.rf_rewrite.proofs.Contexts.{Context, plug, one_of, times, around, edited_plug}
+use Rattle.rf_rewrite.proofs.Parts.{NoneAround, no_uses_plug, uses_plug}
+use Rattle.rf_rewrite.proofs.Window.{removing_only}
+use Rattle.rf_rewrite.proofs.Gone.{uses_id, used_by, NoneUses, unused_in, greatest_all, other_in, other_was}
 use Rattle.vx_serial.proofs.Decided.{true_false}
 
 -- ---- those among ids
@@ -103,24 +105,36 @@ uses_there c y l e =
     ∙ or_later (some (uses_in_blocks y c.blocks_before)) (some (uses_in y l ++ uses_in_blocks y c.blocks_after)) (
     some_append (uses_in y l) (uses_in_blocks y c.blocks_after) ∙ ap (λ b. b || some (uses_in_blocks y c.blocks_after)) (uses_some y l e))))
 
--- where none among them uses it, none does
-none_uses : (ds : List Id) (y : Id) (l : List Inst) → is_id_in ds y ≡ true → Loose ds l → uses_value y (among ds l) ≡ false → NoneUses y l
-none_uses ds y [] h loose e = tt
-none_uses ds y (i ∷ l) h loose e = by_use (uses_id y i) refl (is_id_in ds i.id) refl e (none_uses ds y l h loose.1)
+-- ---- what is used by what is left alone
+
+-- each that uses one of some ids is one of them
+abbrev pub Shut : List Id → List Inst → Type 0
+Shut ds l = Every (λ (i : Inst). (y : Id) → is_id_in ds y ≡ true → uses_id y i ≡ true → is_id_in ds i.id ≡ true) l
+
+-- some ids stand in the block alone, and are used there alone, by one another
+pub record Closing (c : Context) (ds : List Id) (l : List Inst) : Type 0 where
+  pub shut : Shut ds l
+  pub here : (y : Id) → is_id_in ds y ≡ true → around c y ≡ 0
+  pub unused : (y : Id) → is_id_in ds y ≡ true → NoneAround c y
+
+-- where none among them uses one, none does
+none_uses : (ds : List Id) (y : Id) (l : List Inst) → is_id_in ds y ≡ true → Shut ds l → uses_value y (among ds l) ≡ false → NoneUses y l
+none_uses ds y [] h shut e = tt
+none_uses ds y (i ∷ l) h shut e = by_use (uses_id y i) refl (is_id_in ds i.id) refl e (none_uses ds y l h shut.1)
   where
     by_use : (b : Bool) → uses_id y i ≡ b → (d : Bool) → is_id_in ds i.id ≡ d → uses_value y (cond d (i ∷ among ds l) (among ds l)) ≡ false → (uses_value y (among ds l) ≡ false → NoneUses y l) → NoneUses y (i ∷ l)
-    by_use true t false u r more = absurd (true_false (sym (loose.0 y h t).0 ∙ u))
+    by_use true t false u r more = absurd (true_false (sym (shut.0 y h t) ∙ u))
     by_use true t true u r more = absurd (true_false (sym (ap (λ b. b || uses_value y (among ds l)) t) ∙ r))
     by_use false t false u r more = (t, more r)
     by_use false t true u r more = (t, more (sym (ap (λ b. b || uses_value y (among ds l)) t) ∙ r))
 
-module _ (c : Context) (ds : List Id) (l : List Inst) (g : Going c ds l) where
+module _ (c : Context) (ds : List Id) (l : List Inst) (g : Closing c ds l) where
   unused_among : (y : Id) → is_id_in ds y ≡ true → is_unused (plug c l) y ≡ not (uses_value y (among ds l))
   unused_among y h = by_use (uses_value y (among ds l)) refl
     where
       by_use : (b : Bool) → uses_value y (among ds l) ≡ b → is_unused (plug c l) y ≡ not b
       by_use true e = ap not (uses_there c y l (uses_more ds y l e))
-      by_use false e = ap (λ us. not (some us)) (no_uses_plug c l y (g.unused y h) (unused_in y l (none_uses ds y l h g.loose e)))
+      by_use false e = ap (λ us. not (some us)) (no_uses_plug c l y (g.unused y h) (unused_in y l (none_uses ds y l h g.shut e)))
 
   greatest_among : (xs : List Id) → ((y : Id) → is_id_in xs y ≡ true → is_id_in ds y ≡ true) → greatest_unused (plug c l) xs ≡ greatest_free (among ds l) xs
   greatest_among [] h = refl
@@ -128,19 +142,45 @@ module _ (c : Context) (ds : List Id) (l : List Inst) (g : Going c ds l) where
       ap (λ b. greater b x (greatest_unused (plug c l) xs)) (unused_among x (h x (ap (λ b. b || is_id_in xs x) (same_itself x))))
       ∙ ap (greater (not (uses_value x (among ds l))) x) (greatest_among xs (λ y e. h y (or_later (same_id y x) (is_id_in xs y) e)))
 
-pub removed_in_turn : (c : Context) (n : ℕ) (ds : List Id) (l : List Inst) → length ds ≡ n → Going c ds l → removals n (plug c l) ds ≡ map Remove (removal_order n (among ds l) ds)
-removed_in_turn c zero ds l e g = refl
-removed_in_turn c (suc n) [] l e g = refl
-removed_in_turn c (suc n) (d ∷ ds) l e g = by_greatest (one_free c d ds l g) (λ x. removed_in_turn c n (other_than x (d ∷ ds)) (each (removing_edit x) l))
+  -- without one of them
+  module _ (x : Id) (goes : is_id_in ds x ≡ true) where
+    one_removed : applied (Remove x) (plug c l) ≡ plug c (each (removing_edit x) l)
+    one_removed = edited_plug c l x (removing_edit x) (removing_only x) (g.here x goes)
+
+    shut_rest : (k : List Inst) → Shut ds k → Shut (other_than x ds) (each (removing_edit x) k)
+    shut_rest [] h = tt
+    shut_rest (i ∷ k) h = by_test (same_id i.id x) refl (shut_rest k h.1)
+      where
+        by_test : (b : Bool) → same_id i.id x ≡ b → Shut (other_than x ds) (each (removing_edit x) k) → Shut (other_than x ds) (cond b [] (i ∷ []) ++ each (removing_edit x) k)
+        by_test true t r = r
+        by_test false t r = ((λ y q u. other_in x i.id ds t ∙ h.0 y (other_was x y ds q) u), r)
+
+    closing_rest : Closing c (other_than x ds) (each (removing_edit x) l)
+    closing_rest = record {
+      shut = shut_rest l g.shut;
+      here = λ y r. g.here y (other_was x y ds r);
+      unused = λ y r. g.unused y (other_was x y ds r);
+    }
+
+pub removed_in_turn : (c : Context) (n : ℕ) (ds : List Id) (l : List Inst) → Closing c ds l → removals n (plug c l) ds ≡ map Remove (removal_order n (among ds l) ds)
+removed_in_turn c zero ds l g = refl
+removed_in_turn c (suc n) ds l g = by_greatest (greatest_unused (plug c l) ds) refl (λ x. removed_in_turn c n (other_than x ds) (each (removing_edit x) l))
   where
-    by_greatest : Greatest (plug c l) (d ∷ ds) →
-        ((x : Id) → length (other_than x (d ∷ ds)) ≡ n → Going c (other_than x (d ∷ ds)) (each (removing_edit x) l) →
-        removals n (plug c (each (removing_edit x) l)) (other_than x (d ∷ ds)) ≡ map Remove (removal_order n (among (other_than x (d ∷ ds)) (each (removing_edit x) l)) (other_than x (d ∷ ds)))) →
-        removals (suc n) (plug c l) (d ∷ ds) ≡ map Remove (removal_order (suc n) (among (d ∷ ds) l) (d ∷ ds))
-    by_greatest h more =
-        ap (λ o. removing o (λ x. removals n (applied (Remove x) (plug c l)) (other_than x (d ∷ ds)))) h.is
-        ∙ ap (λ r. Remove h.one ∷ r) (
-        ap (λ m. removals n m (other_than h.one (d ∷ ds))) (removed_there c (d ∷ ds) l g h.one h.goes)
-        ∙ more h.one (let long = other_length h.one (d ∷ ds) h.goes in omega (arith, long, e)) (others_go c (d ∷ ds) l g h.one h.goes)
-        ∙ ap (λ is. map Remove (removal_order n is (other_than h.one (d ∷ ds)))) (among_removed h.one (d ∷ ds) l))
-        ∙ sym (ap (λ o. map Remove (taking o (λ x. removal_order n (without (x ∷ []) (among (d ∷ ds) l)) (other_than x (d ∷ ds))))) (sym (greatest_among c (d ∷ ds) l g (d ∷ ds) (λ y r. r)) ∙ h.is))
+    same : greatest_unused (plug c l) ds ≡ greatest_free (among ds l) ds
+    same = greatest_among c ds l g ds (λ y r. r)
+
+    by_greatest : (o : Option Id) → greatest_unused (plug c l) ds ≡ o →
+        ((x : Id) → Closing c (other_than x ds) (each (removing_edit x) l) →
+        removals n (plug c (each (removing_edit x) l)) (other_than x ds) ≡ map Remove (removal_order n (among (other_than x ds) (each (removing_edit x) l)) (other_than x ds))) →
+        removing (greatest_unused (plug c l) ds) (λ x. removals n (applied (Remove x) (plug c l)) (other_than x ds))
+        ≡ map Remove (taking (greatest_free (among ds l) ds) (λ x. removal_order n (without (x ∷ []) (among ds l)) (other_than x ds)))
+    by_greatest None e more =
+        ap (λ o. removing o (λ x. removals n (applied (Remove x) (plug c l)) (other_than x ds))) e
+        ∙ sym (ap (λ o. map Remove (taking o (λ x. removal_order n (without (x ∷ []) (among ds l)) (other_than x ds)))) (sym same ∙ e))
+    by_greatest (Some d) e more =
+        let goes = (greatest_all (plug c l) ds d e).0 in
+        ap (λ o. removing o (λ x. removals n (applied (Remove x) (plug c l)) (other_than x ds))) e
+        ∙ ap (λ r. Remove d ∷ r) (
+        ap (λ m. removals n m (other_than d ds)) (one_removed c ds l g d goes) ∙ more d (closing_rest c ds l g d goes)
+        ∙ ap (λ is. map Remove (removal_order n is (other_than d ds))) (among_removed d ds l))
+        ∙ sym (ap (λ o. map Remove (taking o (λ x. removal_order n (without (x ∷ []) (among ds l)) (other_than x ds)))) (sym same ∙ e))

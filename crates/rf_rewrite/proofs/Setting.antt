@@ -22,7 +22,7 @@ use Rattle.rf_rewrite.proofs.Gone.{uses_id, Loose, LooseUse, Removable, AllRemov
 use Rattle.rf_rewrite.proofs.Making.{IsExtract, IsKept, Kind}
 use Rattle.rf_rewrite.proofs.Trees.{once_both}
 use Rattle.rf_rewrite.specs.Removing.{among}
-use Rattle.rf_rewrite.proofs.Removing.{among_append, among_none, among_without}
+use Rattle.rf_rewrite.proofs.Removing.{among_append, among_none, among_without, Shut, Closing}
 use Rattle.rf_rewrite.proofs.Scan.{users}
 use Rattle.rf_rewrite.proofs.Left.{without_append, gone_times, kept_times, fewer_times, without_agree, without_all, without_stays, moved, left_is, moved_stands, stands_moved, in_not_among, not_among_once, in_both, ids_times, times_ids_in, user_in}
 use Rattle.vx_serial.proofs.Decided.{true_false, and_left, and_right}
@@ -47,8 +47,11 @@ pub record Setting (globals region : ℕ) (base : Id → ℕ) (c : Context) (fro
       (users lanes gone (uses_of y (funcs_of (plug c (front ++ (window ++ x ∷ zs))).items)) ≡ true) × (uses_value y new ≡ false)
   pub unused : (y : Id) → uses_value y new ≡ false → Every (λ (i : Inst). is_created region i ≡ true → uses_id y i ≡ false) ws
   pub covers : (y : Id) → 1 ≤ times y window → is_id_in lanes y ≡ false → is_id_in gone y ≡ false → 1 ≤ times y ws
-  pub earlier : (as_front rest : List Inst) (i : Inst) (v : Id) → front ++ (window ++ x ∷ zs) ≡ as_front ++ i ∷ rest → is_phi i.op ≡ false → uses_id v i ≡ true → around c v ≡ 0 → times v (i ∷ rest) ≡ 0
   pub old : (y : Id) → 1 ≤ times y (front ++ (window ++ x ∷ zs)) → nat_eq y.region (suc region) ≡ false
+
+-- what an instruction uses stands before it
+abbrev pub Earlier : Context → List Inst → Type 0
+Earlier c block = (as_front rest : List Inst) (i : Inst) (v : Id) → block ≡ as_front ++ i ∷ rest → is_phi i.op ≡ false → uses_id v i ≡ true → around c v ≡ 0 → times v (i ∷ rest) ≡ 0
 
 module _ (globals region : ℕ) (base : Id → ℕ) (c : Context) (front window : List Inst) (x : Inst) (zs : List Inst) (lanes gone : List Id) (new ws : List Inst)
     (s : Setting globals region base c front window x zs lanes gone new ws) where
@@ -161,20 +164,20 @@ module _ (globals region : ℕ) (base : Id → ℕ) (c : Context) (front window 
 
   -- ---- loose, part by part
 
-  loose_part : (taken : List Id) (pre xs post tail : List Inst) → block ≡ pre ++ (xs ++ post) →
+  loose_part : Earlier c block → (taken : List Id) (pre xs post tail : List Inst) → block ≡ pre ++ (xs ++ post) →
       ((z : Id) → 1 ≤ times z xs → is_id_in taken z ≡ false → (is_id_in lanes z || is_id_in gone z) ≡ true → is_id_in ds z ≡ true) →
       ((y : Id) → is_id_in ds y ≡ true → times y post ≡ 0 → times y tail ≡ 0) → Loose ds tail → Loose ds (without taken xs ++ tail)
-  loose_part taken pre [] post tail e stays ends loose = loose
-  loose_part taken pre (i ∷ xs) post tail e stays ends loose =
+  loose_part earlier taken pre [] post tail e stays ends loose = loose
+  loose_part earlier taken pre (i ∷ xs) post tail e stays ends loose =
       by_test (is_id_in taken i.id) refl
-      (loose_part taken (pre ++ i ∷ []) xs post tail (e ∙ sym (append_assoc pre (i ∷ []) (xs ++ post))) (λ z some t q. stays z (omega (arith, some)) t q) ends loose)
+      (loose_part earlier taken (pre ++ i ∷ []) xs post tail (e ∙ sym (append_assoc pre (i ∷ []) (xs ++ post))) (λ z some t q. stays z (omega (arith, some)) t q) ends loose)
     where
       loose_use : is_id_in taken i.id ≡ false → LooseUse ds i (without taken xs ++ tail)
       loose_use t y h u =
           let q = user_either y h pre (xs ++ post) i e u in
           let own : one_of i.id i.id ≡ 1 = ap (λ b. cond b 1 0) (same_itself i.id) in
           let may = may_at pre (xs ++ post) i e (either_may i.id q) in
-          let none = s.earlier pre (xs ++ post) i y e may.0 u (stands_here y h) in
+          let none = earlier pre (xs ++ post) i y e may.0 u (stands_here y h) in
           let sum = times_append y xs post in
           let few = fewer_times taken y xs in
           let last = ends y h (omega (arith, none, sum)) in
@@ -290,11 +293,11 @@ module _ (globals region : ℕ) (base : Id → ℕ) (c : Context) (front window 
       by_test true e r = removed_lane z e (not_moved z some t)
       by_test false e r = removed_gone z r
 
-  loose_after : Loose ds after
-  loose_after =
+  loose_after : Earlier c block → Loose ds after
+  loose_after earlier =
       subst (λ l. Loose ds (l ++ (remains ++ (ws ++ x ∷ zs)))) (without_none front)
-      (loose_part [] [] front (window ++ x ∷ zs) (remains ++ (ws ++ x ∷ zs)) refl (stays_outside front (λ z h. (lane_window z h).0)) middle
-      (loose_part (moved globals region lanes ws) front window (x ∷ zs) (ws ++ x ∷ zs) refl stays_window then
+      (loose_part earlier [] [] front (window ++ x ∷ zs) (remains ++ (ws ++ x ∷ zs)) refl (stays_outside front (λ z h. (lane_window z h).0)) middle
+      (loose_part earlier (moved globals region lanes ws) front window (x ∷ zs) (ws ++ x ∷ zs) refl stays_window then
       (loose_written ws (x ∷ zs) (λ y h. written_unused ws s.kinds (λ z some. some) y h (s.unused y (removed y h).created)) last)))
     where
       then : (y : Id) → is_id_in ds y ≡ true → times y (x ∷ zs) ≡ 0 → times y (ws ++ x ∷ zs) ≡ 0
@@ -311,7 +314,7 @@ module _ (globals region : ℕ) (base : Id → ℕ) (c : Context) (front window 
       last : Loose ds (x ∷ zs)
       last =
           subst (Loose ds) (append_none (without [] (x ∷ zs)) ∙ without_none (x ∷ zs))
-          (loose_part [] (front ++ window) (x ∷ zs) [] [] (sym (append_assoc front window (x ∷ zs)) ∙ ap (λ u. (front ++ window) ++ u) (sym (append_none (x ∷ zs))))
+          (loose_part earlier [] (front ++ window) (x ∷ zs) [] [] (sym (append_assoc front window (x ∷ zs)) ∙ ap (λ u. (front ++ window) ++ u) (sym (append_none (x ∷ zs))))
           (stays_outside (x ∷ zs) (λ z h. (lane_window z h).1)) (λ y h z. refl) tt)
 
   -- ---- removable
@@ -372,10 +375,10 @@ module _ (globals region : ℕ) (base : Id → ℕ) (c : Context) (front window 
           by_test true g = absurd (true_false (sym lane ∙ (s.goes y g).1))
           by_test false g = refl
 
-  pub going : Going c ds after
-  going = record {
+  pub going : Earlier c block → Going c ds after
+  going earlier = record {
     once = both_once;
-    loose = loose_after;
+    loose = loose_after earlier;
     removable = removable_after;
     stand = stands_after;
     here = stands_here;
@@ -439,3 +442,39 @@ module _ (globals region : ℕ) (base : Id → ℕ) (c : Context) (front window 
     where
       taken_stays : (y : Id) → 1 ≤ times y window → is_id_in (moved globals region lanes ws) y ≡ true → is_id_in ds y ≡ false
       taken_stays y some t = written_stays y (moved_stands globals region lanes ws y t)
+
+  -- ---- what is removed is used by what is removed alone
+
+  shut_part : (taken : List Id) (pre xs post : List Inst) → block ≡ pre ++ (xs ++ post) →
+      ((z : Id) → 1 ≤ times z xs → is_id_in taken z ≡ false → (is_id_in lanes z || is_id_in gone z) ≡ true → is_id_in ds z ≡ true) → Shut ds (without taken xs)
+  shut_part taken pre [] post e stays = tt
+  shut_part taken pre (i ∷ xs) post e stays =
+      by_test (is_id_in taken i.id) refl (shut_part taken (pre ++ i ∷ []) xs post (e ∙ sym (append_assoc pre (i ∷ []) (xs ++ post))) (λ z some t q. stays z (omega (arith, some)) t q))
+    where
+      by_test : (b : Bool) → is_id_in taken i.id ≡ b → Shut ds (without taken xs) → Shut ds (cond b (without taken xs) (i ∷ without taken xs))
+      by_test true t rest = rest
+      by_test false t rest = (
+        (λ y h u. stays i.id (let own : one_of i.id i.id ≡ 1 = ap (λ b. cond b 1 0) (same_itself i.id) in omega (arith, own)) t (user_either y h pre (xs ++ post) i e u)),
+        rest,
+      )
+
+  shut_unused : (is : List Inst) → ((y : Id) → is_id_in ds y ≡ true → Every (λ (i : Inst). uses_id y i ≡ false) is) → Shut ds is
+  shut_unused [] n = tt
+  shut_unused (i ∷ is) n = ((λ y h u. absurd (true_false (sym u ∙ (n y h).0))), shut_unused is (λ y h. (n y h).1))
+
+  shut_both : (xs ys : List Inst) → Shut ds xs → Shut ds ys → Shut ds (xs ++ ys)
+  shut_both [] ys h k = k
+  shut_both (i ∷ xs) ys h k = (h.0, shut_both xs ys h.1 k)
+
+  pub closing : Closing c ds after
+  closing = record {
+    shut =
+        shut_both front (remains ++ (ws ++ x ∷ zs))
+        (subst (Shut ds) (without_none front) (shut_part [] [] front (window ++ x ∷ zs) refl (stays_outside front (λ z h. (lane_window z h).0))))
+        (shut_both remains (ws ++ x ∷ zs) (shut_part (moved globals region lanes ws) front window (x ∷ zs) refl stays_window)
+        (shut_both ws (x ∷ zs) (shut_unused ws (λ y h. written_unused ws s.kinds (λ z some. some) y h (s.unused y (removed y h).created)))
+        (subst (Shut ds) (without_none (x ∷ zs))
+        (shut_part [] (front ++ window) (x ∷ zs) [] (sym (append_assoc front window (x ∷ zs)) ∙ ap (λ u. (front ++ window) ++ u) (sym (append_none (x ∷ zs)))) (stays_outside (x ∷ zs) (λ z h. (lane_window z h).1))))));
+    here = stands_here;
+    unused = λ y h. (uses_here y h).0;
+  }

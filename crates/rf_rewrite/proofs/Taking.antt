@@ -36,7 +36,7 @@ module _ (globals region : ℕ) (lanes : List Id) (window : List Inst) where
 
   -- ---- what is left has what was not taken
 
-  find_removed : (x y : Id) (l : List Inst) → same_id x y ≡ false → find y (each (removing x) l) ≡ find y l
+  pub find_removed : (x y : Id) (l : List Inst) → same_id x y ≡ false → find y (each (removing x) l) ≡ find y l
   find_removed x y [] e = refl
   find_removed x y (i ∷ l) e = by_test (same_id i.id x) refl (find_removed x y l e)
     where

@@ -1,6 +1,6 @@
 -- What is inserted, replaced and moved before one instruction, along a new window: the changes fit one after another, and the window is
 -- written there.
-use Rattle.std.proofs.Common.{◌≡◌, refl, sym, ap, ◌∙◌, subst, ℕ, zero, suc, ◌+◌, ◌<◌, ◌≤◌, Bool, true, false, ◌&&◌, ◌||◌, Option, None, Some, List, [], ◌∷◌, ◌++◌, map, cond, arith, length, append_assoc}
+use Rattle.std.proofs.Common.{◌≡◌, refl, sym, ap, ◌∙◌, subst, ℕ, zero, suc, ◌+◌, ◌<◌, ◌≤◌, Bool, true, false, ◌&&◌, ◌||◌, Option, None, Some, List, [], ◌∷◌, ◌++◌, map, cond, nat_eq, arith, length, append_assoc}
 use Rattle.std.specs.Bool.{⊤}
 use Rattle.std.specs.List.{All, list_any, list_all}
 use Rattle.std.proofs.lemmas.List.Elements.{All-nil, All-cons}
@@ -251,6 +251,22 @@ module _ (globals region : ℕ) (lanes : List Id) where
         end : times y (done ++ x ∷ zs) ≡ times y done + (one_of x.id y + times y zs)
         end = times_append y done (x ∷ zs)
 
+    removed_number : (i : Inst) (rest done : List Inst) → find i.id rest ≡ Some i → number rest done i.id ≤ 1 → (y : Id) → number (each (removing i.id) rest) (done ++ i ∷ []) y ≡ number rest done y
+    removed_number i rest done e le y =
+        let gone = removed_times i.id y rest i e (omega (arith, le)) in
+        let more = times_append y done (i ∷ []) in
+        omega (arith, gone, more)
+
+    move_is : (i : Inst) (rest done : List Inst) → find i.id rest ≡ Some i → number rest done i.id ≤ 1 → number rest done x.id ≤ 1 →
+        applied (Move i.id x.id) (state rest done) ≡ state (each (removing i.id) rest) (done ++ i ∷ [])
+    move_is i rest done e le le_x =
+        ap (moved x.id (state rest done)) (rest_found rest done i.id i e le)
+        ∙ ap (edited (inserting x.id i)) (edited_rest i.id (removing i.id) (removing_only i.id) rest done (find_times i.id rest i e) le)
+        ∙ inserted i (each (removing i.id) rest) done fewer
+      where
+        fewer : number (each (removing i.id) rest) done x.id ≤ 1
+        fewer = let gone = removed_times i.id x.id rest i e (let l = le in omega (arith, l)) in omega (arith, gone, le_x)
+
     -- an instruction of what is left goes before x
     module _ (i : Inst) (moves : Moves i) where
       other : (rest done : List Inst) → find i.id rest ≡ Some i → number rest done i.id ≤ 1 → same_id i.id x.id ≡ false
@@ -274,25 +290,6 @@ module _ (globals region : ℕ) (lanes : List Id) where
         ),
         other rest done e (le i.id),
       )
-
-      removed_number : (rest done : List Inst) → find i.id rest ≡ Some i → number rest done i.id ≤ 1 → (y : Id) → number (each (removing i.id) rest) (done ++ i ∷ []) y ≡ number rest done y
-      removed_number rest done e le y =
-          let gone = removed_times i.id y rest i e (omega (arith, le)) in
-          let more = times_append y done (i ∷ []) in
-          omega (arith, gone, more)
-
-      move_is : (rest done : List Inst) → find i.id rest ≡ Some i → ((y : Id) → number rest done y ≤ 1) →
-          applied (Move i.id x.id) (state rest done) ≡ state (each (removing i.id) rest) (done ++ i ∷ [])
-      move_is rest done e le =
-          ap (moved x.id (state rest done)) (rest_found rest done i.id i e (le i.id))
-          ∙ ap (edited (inserting x.id i)) (edited_rest i.id (removing i.id) (removing_only i.id) rest done (find_times i.id rest i e) (le i.id))
-          ∙ inserted i (each (removing i.id) rest) done (fewer x.id)
-        where
-          fewer : (y : Id) → number (each (removing i.id) rest) done y ≤ 1
-          fewer y =
-              let gone = removed_times i.id y rest i e (let l = le i.id in omega (arith, l)) in
-              let all = le y in
-              omega (arith, gone, all)
 
     fits_then : (c1 : Change) (cs : List Change) (m n : Module) → Fits m c1 → applied c1 m ≡ n → AllFit cs n → AllFit (c1 ∷ cs) m
     fits_then c1 cs m n f e h = (f, subst (AllFit cs) (sym e) h)
@@ -337,15 +334,15 @@ module _ (globals region : ℕ) (lanes : List Id) where
                 by_test true t = let none : known y ≡ 0 = ap known (sym (same_is i.id y t)) ∙ f.0 in omega (arith, none)
                 by_test false t = let l = le y in omega (arith, l)
         by_case false false f more_fine more =
-            let at = move_is i f.1 rest done f.0 less in
-            let then = more (each (removing i.id) rest) (done ++ i ∷ []) known (λ y. removed_number i f.1 rest done f.0 (less i.id) y ∙ are y) le more_fine in (
+            let at = move_is i rest done f.0 (less i.id) (less x.id) in
+            let then = more (each (removing i.id) rest) (done ++ i ∷ []) known (λ y. removed_number i rest done f.0 (less i.id) y ∙ are y) le more_fine in (
               ap (all_applied (steps region lanes x.id is)) at ∙ then.0 ∙ ap (state (left is (each (removing i.id) rest))) (append_assoc done (i ∷ []) is),
               fits_then (Move i.id x.id) (steps region lanes x.id is) (state rest done) (state (each (removing i.id) rest) (done ++ i ∷ []))
                   (move_fits i f.1 rest done f.0 less) at then.1,
             )
         by_case false true f more_fine more =
             let put = edited_rest i.id (putting i) (putting_only i) rest done (find_times i.id rest f.0 f.1) (less i.id) in
-            let move = move_is i f.4 (each (putting i) rest) done finds less_put in
+            let move = move_is i (each (putting i) rest) done finds (less_put i.id) (less_put x.id) in
             let same = ap (λ u. state u (done ++ i ∷ [])) (put_removed i rest) in
             let then = more (each (removing i.id) rest) (done ++ i ∷ []) known numbers_then le more_fine in (
               ap (λ m. all_applied (steps region lanes x.id is) (applied (Move i.id x.id) m)) put
@@ -369,3 +366,68 @@ module _ (globals region : ℕ) (lanes : List Id) where
                 let more = times_append y done (i ∷ []) in
                 let now = are y in
                 omega (arith, gone, more, now)
+
+    -- ---- where only what was there stands once, the changes lead there too, though they need not fit
+
+    abbrev pub AlongOf : Bool → Bool → List Inst → Inst → Type 0
+    AlongOf true lane rest i = ⊤
+    AlongOf false true rest i = (j : Inst) × (find i.id rest ≡ Some j)
+    AlongOf false false rest i = find i.id rest ≡ Some i
+
+    abbrev pub Along : List Inst → List Inst → Type 0
+    Along rest [] = ⊤
+    Along rest (i ∷ is) = AlongOf (is_created region i) (is_id_in lanes i.id) rest i × Along (next_rest (is_created region i) i rest) is
+
+    abbrev pub FewOld : List Inst → List Inst → Type 0
+    FewOld rest done = (y : Id) → nat_eq y.region (suc region) ≡ false → number rest done y ≤ 1
+
+    pub window_leads : (is rest done : List Inst) → nat_eq x.id.region (suc region) ≡ false → FewOld rest done → Along rest is →
+        all_applied (steps region lanes x.id is) (state rest done) ≡ state (left is rest) (done ++ is)
+    window_leads [] rest done old few along = ap (state rest) (sym (append_nil done))
+      where
+        append_nil : (l : List Inst) → l ++ [] ≡ l
+        append_nil [] = refl
+        append_nil (j ∷ l) = ap (λ u. j ∷ u) (append_nil l)
+    window_leads (i ∷ is) rest done old few along =
+        by_case (is_created region i) refl (is_id_in lanes i.id) along.0 along.1 (λ r d f a. window_leads is r d old f a)
+      where
+        More : Type 0
+        More = (r d : List Inst) → FewOld r d → Along r is → all_applied (steps region lanes x.id is) (state r d) ≡ state (left is r) (d ++ is)
+
+        few_removed : (l : List Inst) (j : Inst) → find i.id l ≡ Some j → FewOld l done → nat_eq i.id.region (suc region) ≡ false → FewOld (each (removing i.id) l) (done ++ i ∷ [])
+        few_removed l j e h own y o =
+            let gone = removed_times i.id y l j e (let le = h i.id own in omega (arith, le)) in
+            let more = times_append y done (i ∷ []) in
+            let le = h y o in
+            omega (arith, gone, more, le)
+
+        by_case : (b : Bool) → is_created region i ≡ b → (lane : Bool) → AlongOf b lane rest i → Along (next_rest b i rest) is → More →
+            all_applied (step_by b lane x.id i ++ steps region lanes x.id is) (state rest done) ≡ state (left is (next_rest b i rest)) (done ++ i ∷ is)
+        by_case true e lane f rest_along more =
+            ap (all_applied (steps region lanes x.id is)) (inserted i rest done (few x.id old)) ∙ more rest (done ++ i ∷ []) few_then rest_along ∙ ap (state (left is rest)) (append_assoc done (i ∷ []) is)
+          where
+            few_then : FewOld rest (done ++ i ∷ [])
+            few_then y o = let more = times_append y done (i ∷ []) in let le = few y o in let none = other (same_id i.id y) refl in omega (arith, more, le, none)
+              where
+                true_false : true ≡ false → ⊥
+                true_false h = cc
+
+                count : Bool → ℕ
+                count b = cond b 1 0
+
+                other : (b : Bool) → same_id i.id y ≡ b → count b ≡ 0
+                other true t = absurd (true_false (sym e ∙ (ap (λ (v : Id). nat_eq v.region (suc region)) (same_is i.id y t) ∙ o)))
+                other false t = refl
+        by_case false e false f rest_along more =
+            ap (all_applied (steps region lanes x.id is)) (move_is i rest done f (few i.id e) (few x.id old))
+            ∙ more (each (removing i.id) rest) (done ++ i ∷ []) (few_removed rest i f few e) rest_along
+            ∙ ap (state (left is (each (removing i.id) rest))) (append_assoc done (i ∷ []) is)
+        by_case false e true f rest_along more =
+            ap (λ m. all_applied (steps region lanes x.id is) (applied (Move i.id x.id) m)) (edited_rest i.id (putting i) (putting_only i) rest done (find_times i.id rest f.0 f.1) (few i.id e))
+            ∙ ap (all_applied (steps region lanes x.id is)) (
+            move_is i (each (putting i) rest) done (put_found i rest f.0 f.1) (few_put i.id e) (few_put x.id old) ∙ ap (λ u. state u (done ++ i ∷ [])) (put_removed i rest))
+            ∙ more (each (removing i.id) rest) (done ++ i ∷ []) (few_removed rest f.0 f.1 few e) rest_along
+            ∙ ap (state (left is (each (removing i.id) rest))) (append_assoc done (i ∷ []) is)
+          where
+            few_put : FewOld (each (putting i) rest) done
+            few_put y o = let same = put_times i y rest in let le = few y o in omega (arith, same, le)

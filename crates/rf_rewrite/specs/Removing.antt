@@ -8,7 +8,7 @@ use Rattle.std.specs.Int.{int_wrap}
 use Rattle.ir_types.specs.declared.id.Id.{Id}
 use Rattle.ir_types.specs.declared.inst.Inst.{Inst}
 use Rattle.ir_types.specs.declared.module.Module.{Module}
-use Rattle.ir_types.specs.Formed.{IsFormed, IsFresh, IsLawful}
+use Rattle.ir_types.specs.Formed.{IsFormed}
 use Rattle.vx_view.specs.declared.change.Change.{Change}
 use Rattle.vx_view.specs.declared.change.Change.TheVariants.{Remove}
 use Rattle.vx_view.specs.Answers.{find, found, Standing, after, is_value}
@@ -17,7 +17,7 @@ use Rattle.vx_serial.specs.declared.node.Node.{Node}
 use Rattle.vx_serial.specs.Window.{id, order}
 use Rattle.vx_serial.specs.Legal.{bundles_of, ids_of, sums_of, adding}
 use Rattle.vx_serial.specs.Tree.{tree_of, last_in}
-use Rattle.vx_serial.specs.Rewriting.{Plan, plan_of, rewritten_window, is_id_in, joined_ids, without, uses_value, goes_with, going}
+use Rattle.vx_serial.specs.Rewriting.{Plan, plan_of, rewritten_window, is_created, is_id_in, joined_ids, without, uses_value, goes_with, going}
 use Rattle.vx_serial.specs.Changing.{steps, greater, other_than, not_among, changes}
 use Rattle.rf_rewrite.specs.Rewritten.{is_root_widened}
 
@@ -95,11 +95,16 @@ changes_in_turn m region [] = None
 changes_in_turn m region (s ∷ stores) = changes_of m region (block_of (found m s)) (last_in (s ∷ stores) s (block_of (found m s))) (tree_of m (s ∷ stores))
     (bundles_of (block_of (found m s)) (tree_of m (s ∷ stores)))
 
--- the law: they are the region's changes
+-- no instruction of a list has an id that a region creates
+abbrev pub NoneCreated : ℕ → List Inst → Type 0
+NoneCreated region insts = (x : Id) (i : Inst) → find x insts ≡ Some i → is_created region i ≡ false
+
+-- the law: where the bundle of stores is widened and the region's ids are none of their block, they are the region's changes, whether they
+-- fit or not
 abbrev pub RemovedInTurn : Type 0
 RemovedInTurn =
-    (m : Module) (region : ℕ) (stores : List Id) → IsFormed m → IsFresh m region → IsLawful m stores → is_root_widened (tree_of m stores) ≡ true →
-    changes m region stores ≡ changes_in_turn m region stores
+    (m : Module) (region : ℕ) (x : Id) (stores : List Id) (s : Standing) → IsFormed m → found m x ≡ Some s → NoneCreated region s.block → is_root_widened (tree_of m (x ∷ stores)) ≡ true →
+    changes m region (x ∷ stores) ≡ changes_in_turn m region (x ∷ stores)
 
 -- ---- worked examples
 
