@@ -31,7 +31,7 @@ use Rattle.vx_serial.specs.declared.cause.Cause.{Cause}
 use Rattle.vx_serial.specs.declared.node.How.{How}
 use Rattle.vx_serial.specs.declared.node.How.TheVariants.{Reuse, Ident}
 use Rattle.rf_rewrite.specs.Rewritten.{with_insts, is_root_widened, Leads, ChangesLead}
-use Rattle.rf_rewrite.specs.Removing.{among, removal_order, changes_in_turn, RemovedInTurn}
+use Rattle.rf_rewrite.specs.Removing.{among, removal_order, changes_in_turn, IsOwn, RemovedInTurn}
 use Rattle.rf_rewrite.specs.Removing as in_turn
 use Rattle.rf_rewrite.proofs.Removing.{removed_in_turn}
 use Rattle.rf_rewrite.proofs.Contexts.{Context, plug, one_of, times, times_append, around, ids_plug, place_of, found_plug}
@@ -89,7 +89,7 @@ module _ (c : Context) (front ws_old : List Inst) (x : Inst) (zs : List Inst) (r
   abbrev lanes : List Id
   lanes = joined bundles
 
-  module _ (formed : IsFormed whole) (old : (y : Id) → 1 ≤ times y block → nat_eq y.region (suc region) ≡ false)
+  module _ (formed : IsFormed whole) (old : (y : Id) → 1 ≤ times y ws_old → nat_eq y.region (suc region) ≡ false) (x_old : nat_eq x.id.region (suc region) ≡ false)
       (store : Inst) (finds : find s block ≡ Some store) (each : Every (λ y. 1 ≤ times y block) (s ∷ stores)) (root : is_root_widened tree ≡ true)
       (cut_front : before_member bundles block ≡ front) (cut_window : window block last bundles ≡ ws_old) (cut_after : after_inst last block ≡ x ∷ zs) where
     few : (y : Id) → around c y + times y block ≤ 1
@@ -180,7 +180,7 @@ module _ (c : Context) (front ws_old : List Inst) (x : Inst) (zs : List Inst) (r
     members : (y : Id) (i : Inst) → find y ws_old ≡ Some i → Member (length c.globals) region lanes ws_old base i
     members y i e =
         let id : i.id ≡ y = same_is i.id y (find_id y ws_old i e) in
-        let there = find_times y block i (window_block y i e) in
+        let there = find_times y ws_old i e in
         record {
           finds = ap (λ v. find v ws_old) id ∙ e;
           read = ap (λ (v : Id). nat_eq v.region (suc region)) id ∙ old y there;
@@ -196,7 +196,7 @@ module _ (c : Context) (front ws_old : List Inst) (x : Inst) (zs : List Inst) (r
     are_bundles : AreBundles ws_old bundles
     are_bundles = record { members = λ y h. any_times y ws_old (lane_window y h); once = ok.once }
 
-    ordered : (groups : List (List Inst)) × (order whole block last bundles ≡ Some groups)
+    pub ordered : (groups : List (List Inst)) × (order whole block last bundles ≡ Some groups)
     ordered = by_case ok.ordered (order whole block last bundles) refl
       where
         by_case : (bundles ≡ []) ⊎ (is_none (order whole block last bundles) ≡ false) → (o : Option (List (List Inst))) → order whole block last bundles ≡ o → (groups : List (List Inst)) × (order whole block last bundles ≡ Some groups)
@@ -253,207 +253,204 @@ module _ (c : Context) (front ws_old : List Inst) (x : Inst) (zs : List Inst) (r
     gone_block : (y : Id) → is_id_in gone y ≡ true → 1 ≤ times y block
     gone_block y h = let l = leaves_is y h in find_times y block l.inst l.stands
 
-    -- the new window
-    abbrev ws : List Inst
-    ws = without gone rewritten_list
+    -- ---- where the region creates nothing of what goes
 
-    created_stays : (i : Inst) → is_created region i ≡ true → is_id_in gone i.id ≡ false
-    created_stays i e = by_test (is_id_in gone i.id) refl
-      where
-        by_test : (b : Bool) → is_id_in gone i.id ≡ b → b ≡ false
-        by_test true g = absurd (true_false (sym e ∙ old i.id (gone_block i.id g)))
-        by_test false g = refl
+    module _ (old_gone : (y : Id) → is_id_in gone y ≡ true → nat_eq y.region (suc region) ≡ false) where
+      -- the new window
+      abbrev ws : List Inst
+      ws = without gone rewritten_list
 
-    -- ---- the setting
+      created_stays : (i : Inst) → is_created region i ≡ true → is_id_in gone i.id ≡ false
+      created_stays i e = by_test (is_id_in gone i.id) refl
+        where
+          by_test : (b : Bool) → is_id_in gone i.id ≡ b → b ≡ false
+          by_test true g = absurd (true_false (sym e ∙ old_gone i.id g))
+          by_test false g = refl
 
-    may_lane : (y : Id) → is_id_in lanes y ≡ true → MayGo block y
-    may_lane y h = let l = lane_is y h in record { inst = l.inst; stands = l.stands; may = l.may }
+      -- ---- the setting
 
-    lanes_stay : (y : Id) → is_id_in lanes y ≡ true → is_id_in gone y ≡ false
-    lanes_stay y h = by_test (is_id_in gone y) refl
-      where
-        by_test : (b : Bool) → is_id_in gone y ≡ b → b ≡ false
-        by_test true g = absurd (true_false (sym h ∙ (leaves_is y g).other))
-        by_test false g = refl
+      may_lane : (y : Id) → is_id_in lanes y ≡ true → MayGo block y
+      may_lane y h = let l = lane_is y h in record { inst = l.inst; stands = l.stands; may = l.may }
 
-    unwanted_is : (y : Id) → is_id_in lanes y ≡ true → times y ws ≡ 0 → (users lanes gone (uses_of y (funcs_of whole.items)) ≡ true) × (uses_value y new ≡ false)
-    unwanted_is y h z = unwanted whole lanes gone new y (by_test (wanted y) refl)
-      where
-        by_test : (b : Bool) → wanted y ≡ b → b ≡ false
-        by_test true w =
-            let same = kept_times gone y rewritten_list (lanes_stay y h) in
-            let lane = lane_window y h in
-            let again = reorder y in
-            let some = written_wants (length c.globals) region lanes ws_old base whole wanted tree
-            (nodes_known (length c.globals) base whole block last (λ v. refl) (operands_known c block formed) tree ok.nodes) groups groups_ok start tt y h w (omega (arith, lane, again)) in
-            absurd (omega (arith, z, same, some))
-        by_test false w = refl
+      lanes_stay : (y : Id) → is_id_in lanes y ≡ true → is_id_in gone y ≡ false
+      lanes_stay y h = by_test (is_id_in gone y) refl
+        where
+          by_test : (b : Bool) → is_id_in gone y ≡ b → b ≡ false
+          by_test true g = absurd (true_false (sym h ∙ (leaves_is y g).other))
+          by_test false g = refl
 
-    groups_read : Every (Every (λ (j : Inst). is_created region j ≡ false)) groups
-    groups_read = every_map (IsGroup (length c.globals) region lanes ws_old base tree) (Every (λ (j : Inst). is_created region j ≡ false)) reads groups groups_ok
-      where
-        reads : (g : List Inst) → IsGroup (length c.globals) region lanes ws_old base tree g → Every (λ (j : Inst). is_created region j ≡ false) g
-        reads [] h = tt
-        reads (i ∷ is) h = every_map (Member (length c.globals) region lanes ws_old base) (λ (j : Inst). is_created region j ≡ false) (λ j k. k.read) (i ∷ is) h.0
+      unwanted_is : (y : Id) → is_id_in lanes y ≡ true → times y ws ≡ 0 → (users lanes gone (uses_of y (funcs_of whole.items)) ≡ true) × (uses_value y new ≡ false)
+      unwanted_is y h z = unwanted whole lanes gone new y (by_test (wanted y) refl)
+        where
+          by_test : (b : Bool) → wanted y ≡ b → b ≡ false
+          by_test true w =
+              let same = kept_times gone y rewritten_list (lanes_stay y h) in
+              let lane = lane_window y h in
+              let again = reorder y in
+              let some = written_wants (length c.globals) region lanes ws_old base whole wanted tree
+              (nodes_known (length c.globals) base whole block last (λ v. refl) (operands_known c block formed) tree ok.nodes) groups groups_ok start tt y h w (omega (arith, lane, again)) in
+              absurd (omega (arith, z, same, some))
+          by_test false w = refl
 
-    new_is : new ≡ only_created region rewritten_list
-    new_is = (written_alike region whole (λ y. false) wanted tree groups groups_read start start (record { vectors = refl; next = refl; insts = refl })).insts
+      groups_read : Every (Every (λ (j : Inst). is_created region j ≡ false)) groups
+      groups_read = every_map (IsGroup (length c.globals) region lanes ws_old base tree) (Every (λ (j : Inst). is_created region j ≡ false)) reads groups groups_ok
+        where
+          reads : (g : List Inst) → IsGroup (length c.globals) region lanes ws_old base tree g → Every (λ (j : Inst). is_created region j ≡ false) g
+          reads [] h = tt
+          reads (i ∷ is) h = every_map (Member (length c.globals) region lanes ws_old base) (λ (j : Inst). is_created region j ≡ false) (λ j k. k.read) (i ∷ is) h.0
 
-    setting : Setting (length c.globals) region base c front ws_old x zs lanes gone new ws
-    setting = record {
-      few = few;
-      lane = λ y h. (lane_window y h, may_lane y h);
-      goes = λ y h. let l = leaves_is y h in (record { inst = l.inst; stands = l.stands; may = l.may }, l.other, l.used, l.created);
-      lanes_once = ok.once;
-      gone_once = going_once whole lanes new block (length block) few_in;
-      kinds = every_without (Kind (length c.globals) region lanes ws_old base) gone rewritten_list (subst (Every (Kind (length c.globals) region lanes ws_old base)) (sym writes.adds.are) writes.adds.kinds);
-      unwritten = λ y h. gone_times gone y rewritten_list h;
-      unwanted = unwanted_is;
-      unused = λ y e. every_without (λ (i : Inst). is_created region i ≡ true → uses_id y i ≡ false) gone rewritten_list (unused_new region y rewritten_list (ap (uses_value y) (sym new_is) ∙ e));
-      covers = λ y some lane going. let same = kept_times gone y rewritten_list going in let again = reorder y in
-          let kept = writes.adds.keeps y (omega (arith, some, again)) lane in let whole_list = ap (times y) writes.adds.are in omega (arith, same, kept, whole_list);
-      old = old;
-    }
+      new_is : new ≡ only_created region rewritten_list
+      new_is = (written_alike region whole (λ y. false) wanted tree groups groups_read start start (record { vectors = refl; next = refl; insts = refl })).insts
 
-    -- ---- the changes, and where they lead
-
-    abbrev plan : Plan
-    plan = plan_of whole region block tree lanes groups
-
-    abbrev stepped : List Change
-    stepped = steps region lanes x.id ws
-
-    lane_stands : (y : Id) → is_id_in lanes y ≡ true → (i : Inst) × (find y ws_old ≡ Some i)
-    lane_stands y h = find_some y ws_old (lane_window y h)
-
-    ws_few : (y : Id) → nat_eq y.region (suc region) ≡ false → times y ws ≤ 1
-    ws_few y o =
-        let less = fewer_times gone y rewritten_list in
-        let all = written_times region y o whole wanted tree groups start in
-        let again = reorder y in
-        let le = window_few y in
-        omega (arith, less, all, again, le)
-
-    x_old : nat_eq x.id.region (suc region) ≡ false
-    x_old = old x.id (
-        let sum = times_append x.id front (ws_old ++ x ∷ zs) in
-        let then = times_append x.id ws_old (x ∷ zs) in
-        let one : one_of x.id x.id ≡ 1 = ap (λ b. cond b 1 0) (same_itself x.id) in
-        omega (arith, sum, then, one))
-
-    leads_there : all_applied stepped whole ≡ plug c (after (length c.globals) region base c front ws_old x zs lanes gone new ws setting)
-    leads_there =
-        window_leads (length c.globals) region lanes c front x zs plain_x refl ws ws_old [] x_old
-        (λ y o. let le = few y in let sum = numbers (length c.globals) region lanes c front x zs plain_x refl ws_old [] y in let ids = ids_plug c block y in omega (arith, le, sum, ids))
-        (along_kinds (length c.globals) region lanes ws_old base c front x zs plain_x refl lane_stands ws ws_old setting.kinds ws_few (λ y o some. refl))
-        ∙ ap (λ l. plug c (front ++ (l ++ (ws ++ x ∷ zs)))) (left_is (length c.globals) region lanes ws ws_old)
-
-    abbrev goers : List Id
-    goers = not_among (ids_of ws) lanes ++ gone
-
-    abbrev made_changes : List Change
-    made_changes = stepped ++ removals (length goers) (all_applied stepped whole) goers
-
-    abbrev result : List Inst
-    result = without gone front ++ (ws ++ without gone (x ∷ zs))
-
-    -- ---- as the definitions say it
-
-    found_s : found whole s ≡ Some (record { place = place_of c; block = block; inst = store })
-    found_s = found_plug c block s store finds (let le = few s in let some = find_times s block store finds in omega (arith, le, some))
-
-    block_is : block_of (found whole s) ≡ block
-    block_is = ap block_of found_s
-
-    plan_is : plan_of whole region block tree (joined_ids bundles) groups ≡ plan
-    plan_is = ap (λ ls. plan_of whole region block tree ls groups) (joined_is bundles)
-
-    next_x : next_after last block ≡ Some x.id
-    next_x = next_is last block ∙ ap id_of cut_after
-
-    changes_are : changes whole region (s ∷ stores) ≡ Some made_changes
-    changes_are =
-        ap (λ b. changes_of whole region b (last_in (s ∷ stores) s b) (tree_in whole b (last_in (s ∷ stores) s b) (s ∷ stores)) (bundles_of b (tree_in whole b (last_in (s ∷ stores) s b) (s ∷ stores)))) block_is
-        ∙ ap (option_map (λ gs. changes_in whole region block last (plan_of whole region block tree (joined_ids bundles) gs))) ordered.1
-        ∙ ap (λ p. Some (changes_in whole region block last p)) plan_is
-        ∙ ap (λ o. Some (before_next whole region plan o)) next_x
-
-    rewritten_is : rewritten whole region (s ∷ stores) ≡ Some result
-    rewritten_is =
-        ap (λ b. rewritten_in whole region b (last_in (s ∷ stores) s b) (tree_in whole b (last_in (s ∷ stores) s b) (s ∷ stores)) (bundles_of b (tree_in whole b (last_in (s ∷ stores) s b) (s ∷ stores)))) block_is
-        ∙ ap (option_map (λ gs. rewritten_by whole region block bundles last (plan_of whole region block tree (joined_ids bundles) gs))) ordered.1
-        ∙ ap (λ p. Some (rewritten_by whole region block bundles last p)) plan_is
-        ∙ ap (λ f. Some (without gone (f ++ (rewritten_list ++ after_inst last block)))) cut_front
-        ∙ ap (λ a. Some (without gone (front ++ (rewritten_list ++ a)))) cut_after
-        ∙ ap Some (without_append gone front (rewritten_list ++ x ∷ zs) ∙ ap (λ u. without gone front ++ u) (without_append gone rewritten_list (x ∷ zs)))
-
-    -- ---- what is removed, told on lists
-
-    abbrev turned : List Change
-    turned = stepped ++ map Remove (removal_order (length goers) (among goers block) goers)
-
-    turned_are : made_changes ≡ turned
-    turned_are = ap (λ r. stepped ++ r) (
-        ap (λ m. removals (length goers) m goers) leads_there
-        ∙ removed_in_turn c (length goers) goers (after (length c.globals) region base c front ws_old x zs lanes gone new ws setting) (closing (length c.globals) region base c front ws_old x zs lanes gone new ws setting)
-        ∙ ap (λ is. map Remove (removal_order (length goers) is goers)) (among_after (length c.globals) region base c front ws_old x zs lanes gone new ws setting))
-
-    in_turn_are : changes_in_turn whole region (s ∷ stores) ≡ Some turned
-    in_turn_are =
-        ap (λ b. in_turn.changes_of whole region b (last_in (s ∷ stores) s b) (tree_in whole b (last_in (s ∷ stores) s b) (s ∷ stores)) (bundles_of b (tree_in whole b (last_in (s ∷ stores) s b) (s ∷ stores)))) block_is
-        ∙ ap (option_map (λ gs. in_turn.changes_in whole region block last (plan_of whole region block tree (joined_ids bundles) gs))) ordered.1
-        ∙ ap (λ p. Some (in_turn.changes_in whole region block last p)) plan_is
-        ∙ ap (λ o. Some (in_turn.before_next whole region block plan o)) next_x
-
-    pub turned_law : changes whole region (s ∷ stores) ≡ changes_in_turn whole region (s ∷ stores)
-    turned_law = changes_are ∙ ap Some turned_are ∙ sym in_turn_are
-
-    -- ---- where the region's ids are new and a walk comes to the block, they fit
-
-    module _ (fresh : IsFresh whole region) (reached : IsReached (graph_of (func_in c block)) (length c.blocks_before)) where
-      ready : Ready (length c.globals) region lanes ws_old base base 0
-      ready = record {
-        were = λ y h. h;
-        are = λ k less. absurd (omega (arith, less));
-        free = λ k le. fresh_times region k (module_ids whole) (every_of_all (λ (id : Id). id.region ≤ region) (module_ids whole) fresh);
+      setting : Setting (length c.globals) region base c front ws_old x zs lanes gone new ws
+      setting = record {
+        few = few;
+        lane = λ y h. (lane_window y h, may_lane y h);
+        goes = λ y h. let l = leaves_is y h in (record { inst = l.inst; stands = l.stands; may = l.may }, l.other, l.used, l.created);
+        lanes_once = ok.once;
+        gone_once = going_once whole lanes new block (length block) few_in;
+        kinds = every_without (Kind (length c.globals) region lanes ws_old base) gone rewritten_list (subst (Every (Kind (length c.globals) region lanes ws_old base)) (sym writes.adds.are) writes.adds.kinds);
+        unwritten = λ y h. gone_times gone y rewritten_list h;
+        unwanted = unwanted_is;
+        unused = λ y e. every_without (λ (i : Inst). is_created region i ≡ true → uses_id y i ≡ false) gone rewritten_list (unused_new region y rewritten_list (ap (uses_value y) (sym new_is) ∙ e));
+        covers = λ y some lane going. let same = kept_times gone y rewritten_list going in let again = reorder y in
+            let kept = writes.adds.keeps y (omega (arith, some, again)) lane in let whole_list = ap (times y) writes.adds.are in omega (arith, same, kept, whole_list);
+        old = old;
+        old_gone = old_gone;
       }
 
-      takes : Takes (length c.globals) region lanes ws_old base (λ y. 0) rewritten_list
-      takes =
-          subst (Takes (length c.globals) region lanes ws_old base (λ y. 0)) (append_none writes.adds.new ∙ sym writes.adds.are)
-          (writes.adds.takes base (λ y. 0) ready (λ y. let same = reorder y in let le = window_few y in omega (arith, same, le)) [] (λ known now r fewer. tt))
+      -- ---- the changes, and where they lead
 
-      fine : Fine (length c.globals) region lanes base ws_old ws
-      fine = takes_fine (length c.globals) region lanes ws_old ws ws_old base (λ y. 0) (λ y z. refl)
-          (takes_without (length c.globals) region lanes ws_old gone created_stays rewritten_list base (λ y. 0) (λ y. 0) (λ y. omega (arith)) takes)
+      abbrev plan : Plan
+      plan = plan_of whole region block tree lanes groups
 
-      led : (all_applied stepped whole ≡ plug c (after (length c.globals) region base c front ws_old x zs lanes gone new ws setting)) × AllFit stepped whole
-      led =
-          let w = window_is (length c.globals) region lanes c front x zs plain_x refl ws ws_old [] base
-          (λ y. sym (numbers (length c.globals) region lanes c front x zs plain_x refl ws_old [] y)) (λ y. let le = few y in let ids = ids_plug c block y in omega (arith, le, ids)) fine in
-          (w.0 ∙ ap (λ l. plug c (front ++ (l ++ (ws ++ x ∷ zs)))) (left_is (length c.globals) region lanes ws ws_old), w.1)
+      abbrev stepped : List Change
+      stepped = steps region lanes x.id ws
 
-      gone_all : Goes c goers (after (length c.globals) region base c front ws_old x zs lanes gone new ws setting) (length goers)
-      gone_all = all_go c (length goers) goers (after (length c.globals) region base c front ws_old x zs lanes gone new ws setting) refl (going_facts (length c.globals) region base c front ws_old x zs lanes gone new ws setting (λ f rest i v e p u a. stands_earlier c block formed reached f rest i v e p u a))
+      lane_stands : (y : Id) → is_id_in lanes y ≡ true → (i : Inst) × (find y ws_old ≡ Some i)
+      lane_stands y h = find_some y ws_old (lane_window y h)
 
-      made_lead : (all_applied made_changes whole ≡ plug c result) × AllFit made_changes whole
-      made_lead = (
-        applied_append stepped (removals (length goers) (all_applied stepped whole) goers) whole
-            ∙ ap (λ m. all_applied (removals (length goers) m goers) m) led.0
-            ∙ gone_all.0 ∙ ap (plug c) (leaves (length c.globals) region base c front ws_old x zs lanes gone new ws setting),
-        fit_append stepped (removals (length goers) (all_applied stepped whole) goers) whole led.1
-            (subst (λ m. AllFit (removals (length goers) m goers) m) (sym led.0) gone_all.1),
-      )
+      ws_few : (y : Id) → nat_eq y.region (suc region) ≡ false → times y ws ≤ 1
+      ws_few y o =
+          let less = fewer_times gone y rewritten_list in
+          let all = written_times region y o whole wanted tree groups start in
+          let again = reorder y in
+          let le = window_few y in
+          omega (arith, less, all, again, le)
 
-      pub law : Leads whole region (s ∷ stores)
-      law = record {
-        list = made_changes;
-        are = changes_are;
-        fit = made_lead.1;
-        there =
-            ap (option_map (λ insts. with_insts s insts whole)) rewritten_is
-            ∙ ap Some (with_insts_plug c block result s (let le = few s in let some = find_times s block store finds in omega (arith, le, some)) (defines_found s block store finds) ∙ sym made_lead.0);
-      }
+      leads_there : all_applied stepped whole ≡ plug c (after (length c.globals) region base c front ws_old x zs lanes gone new ws setting)
+      leads_there =
+          window_leads (length c.globals) region lanes c front x zs plain_x refl ws ws_old [] x_old
+          (λ y o. let le = few y in let sum = numbers (length c.globals) region lanes c front x zs plain_x refl ws_old [] y in let ids = ids_plug c block y in omega (arith, le, sum, ids))
+          (along_kinds (length c.globals) region lanes ws_old base c front x zs plain_x refl lane_stands ws ws_old setting.kinds ws_few (λ y o some. refl))
+          ∙ ap (λ l. plug c (front ++ (l ++ (ws ++ x ∷ zs)))) (left_is (length c.globals) region lanes ws ws_old)
+
+      abbrev goers : List Id
+      goers = not_among (ids_of ws) lanes ++ gone
+
+      abbrev made_changes : List Change
+      made_changes = stepped ++ removals (length goers) (all_applied stepped whole) goers
+
+      abbrev result : List Inst
+      result = without gone front ++ (ws ++ without gone (x ∷ zs))
+
+      -- ---- as the definitions say it
+
+      found_s : found whole s ≡ Some (record { place = place_of c; block = block; inst = store })
+      found_s = found_plug c block s store finds (let le = few s in let some = find_times s block store finds in omega (arith, le, some))
+
+      block_is : block_of (found whole s) ≡ block
+      block_is = ap block_of found_s
+
+      plan_is : plan_of whole region block tree (joined_ids bundles) groups ≡ plan
+      plan_is = ap (λ ls. plan_of whole region block tree ls groups) (joined_is bundles)
+
+      next_x : next_after last block ≡ Some x.id
+      next_x = next_is last block ∙ ap id_of cut_after
+
+      changes_are : changes whole region (s ∷ stores) ≡ Some made_changes
+      changes_are =
+          ap (λ b. changes_of whole region b (last_in (s ∷ stores) s b) (tree_in whole b (last_in (s ∷ stores) s b) (s ∷ stores)) (bundles_of b (tree_in whole b (last_in (s ∷ stores) s b) (s ∷ stores)))) block_is
+          ∙ ap (option_map (λ gs. changes_in whole region block last (plan_of whole region block tree (joined_ids bundles) gs))) ordered.1
+          ∙ ap (λ p. Some (changes_in whole region block last p)) plan_is
+          ∙ ap (λ o. Some (before_next whole region plan o)) next_x
+
+      rewritten_is : rewritten whole region (s ∷ stores) ≡ Some result
+      rewritten_is =
+          ap (λ b. rewritten_in whole region b (last_in (s ∷ stores) s b) (tree_in whole b (last_in (s ∷ stores) s b) (s ∷ stores)) (bundles_of b (tree_in whole b (last_in (s ∷ stores) s b) (s ∷ stores)))) block_is
+          ∙ ap (option_map (λ gs. rewritten_by whole region block bundles last (plan_of whole region block tree (joined_ids bundles) gs))) ordered.1
+          ∙ ap (λ p. Some (rewritten_by whole region block bundles last p)) plan_is
+          ∙ ap (λ f. Some (without gone (f ++ (rewritten_list ++ after_inst last block)))) cut_front
+          ∙ ap (λ a. Some (without gone (front ++ (rewritten_list ++ a)))) cut_after
+          ∙ ap Some (without_append gone front (rewritten_list ++ x ∷ zs) ∙ ap (λ u. without gone front ++ u) (without_append gone rewritten_list (x ∷ zs)))
+
+      -- ---- what is removed, told on lists
+
+      abbrev turned : List Change
+      turned = stepped ++ map Remove (removal_order (length goers) (among goers block) goers)
+
+      turned_are : made_changes ≡ turned
+      turned_are = ap (λ r. stepped ++ r) (
+          ap (λ m. removals (length goers) m goers) leads_there
+          ∙ removed_in_turn c (length goers) goers (after (length c.globals) region base c front ws_old x zs lanes gone new ws setting) (closing (length c.globals) region base c front ws_old x zs lanes gone new ws setting)
+          ∙ ap (λ is. map Remove (removal_order (length goers) is goers)) (among_after (length c.globals) region base c front ws_old x zs lanes gone new ws setting))
+
+      in_turn_are : changes_in_turn whole region (s ∷ stores) ≡ Some turned
+      in_turn_are =
+          ap (λ b. in_turn.changes_of whole region b (last_in (s ∷ stores) s b) (tree_in whole b (last_in (s ∷ stores) s b) (s ∷ stores)) (bundles_of b (tree_in whole b (last_in (s ∷ stores) s b) (s ∷ stores)))) block_is
+          ∙ ap (option_map (λ gs. in_turn.changes_in whole region block last (plan_of whole region block tree (joined_ids bundles) gs))) ordered.1
+          ∙ ap (λ p. Some (in_turn.changes_in whole region block last p)) plan_is
+          ∙ ap (λ o. Some (in_turn.before_next whole region block plan o)) next_x
+
+      pub turned_law : changes whole region (s ∷ stores) ≡ changes_in_turn whole region (s ∷ stores)
+      turned_law = changes_are ∙ ap Some turned_are ∙ sym in_turn_are
+
+      -- ---- where the region's ids are new and a walk comes to the block, they fit
+
+      module _ (fresh : IsFresh whole region) (reached : IsReached (graph_of (func_in c block)) (length c.blocks_before)) where
+        ready : Ready (length c.globals) region lanes ws_old base base 0
+        ready = record {
+          were = λ y h. h;
+          are = λ k less. absurd (omega (arith, less));
+          free = λ k le. fresh_times region k (module_ids whole) (every_of_all (λ (id : Id). id.region ≤ region) (module_ids whole) fresh);
+        }
+
+        takes : Takes (length c.globals) region lanes ws_old base (λ y. 0) rewritten_list
+        takes =
+            subst (Takes (length c.globals) region lanes ws_old base (λ y. 0)) (append_none writes.adds.new ∙ sym writes.adds.are)
+            (writes.adds.takes base (λ y. 0) ready (λ y. let same = reorder y in let le = window_few y in omega (arith, same, le)) [] (λ known now r fewer. tt))
+
+        fine : Fine (length c.globals) region lanes base ws_old ws
+        fine = takes_fine (length c.globals) region lanes ws_old ws ws_old base (λ y. 0) (λ y z. refl)
+            (takes_without (length c.globals) region lanes ws_old gone created_stays rewritten_list base (λ y. 0) (λ y. 0) (λ y. omega (arith)) takes)
+
+        led : (all_applied stepped whole ≡ plug c (after (length c.globals) region base c front ws_old x zs lanes gone new ws setting)) × AllFit stepped whole
+        led =
+            let w = window_is (length c.globals) region lanes c front x zs plain_x refl ws ws_old [] base
+            (λ y. sym (numbers (length c.globals) region lanes c front x zs plain_x refl ws_old [] y)) (λ y. let le = few y in let ids = ids_plug c block y in omega (arith, le, ids)) fine in
+            (w.0 ∙ ap (λ l. plug c (front ++ (l ++ (ws ++ x ∷ zs)))) (left_is (length c.globals) region lanes ws ws_old), w.1)
+
+        gone_all : Goes c goers (after (length c.globals) region base c front ws_old x zs lanes gone new ws setting) (length goers)
+        gone_all = all_go c (length goers) goers (after (length c.globals) region base c front ws_old x zs lanes gone new ws setting) refl (going_facts (length c.globals) region base c front ws_old x zs lanes gone new ws setting (λ f rest i v e p u a. stands_earlier c block formed reached f rest i v e p u a))
+
+        made_lead : (all_applied made_changes whole ≡ plug c result) × AllFit made_changes whole
+        made_lead = (
+          applied_append stepped (removals (length goers) (all_applied stepped whole) goers) whole
+              ∙ ap (λ m. all_applied (removals (length goers) m goers) m) led.0
+              ∙ gone_all.0 ∙ ap (plug c) (leaves (length c.globals) region base c front ws_old x zs lanes gone new ws setting),
+          fit_append stepped (removals (length goers) (all_applied stepped whole) goers) whole led.1
+              (subst (λ m. AllFit (removals (length goers) m goers) m) (sym led.0) gone_all.1),
+        )
+
+        pub law : Leads whole region (s ∷ stores)
+        law = record {
+          list = made_changes;
+          are = changes_are;
+          fit = made_lead.1;
+          there =
+              ap (option_map (λ insts. with_insts s insts whole)) rewritten_is
+              ∙ ap Some (with_insts_plug c block result s (let le = few s in let some = find_times s block store finds in omega (arith, le, some)) (defines_found s block store finds) ∙ sym made_lead.0);
+        }
 
 -- ---- the law, on any block
 
@@ -469,14 +466,14 @@ module _ (c : Context) (block : List Inst) (region : ℕ) (s : Id) (stores : Lis
   last_in_stores : is_id_in (s ∷ stores) last_store ≡ true
   last_in_stores = last_among (s ∷ stores) s block (of_stores.first_in c block s stores formed each root)
 
-  last_inst : (i : Inst) × (find last_store block ≡ Some i) × Removable i
+  pub last_inst : (i : Inst) × (find last_store block ≡ Some i) × Removable i
   last_inst = of_stores.store_of c block s stores formed each root (s ∷ stores) (of_stores.root_lanes c block s stores formed each root) last_store last_in_stores
 
-  parts : FoundParts last_store block last_inst.0
+  pub parts : FoundParts last_store block last_inst.0
   parts = found_parts last_store block last_inst.0 last_inst.1
 
   -- a store ends no block
-  something : (y : Inst) × (more : List Inst) × (parts.rest ≡ y ∷ more)
+  pub something : (y : Inst) × (more : List Inst) × (parts.rest ≡ y ∷ more)
   something = ends_after parts.front last_inst.0 parts.rest (subst Rattle.ir_types.specs.Formed.EndsOnce parts.are (block_formed c block formed).ends) last_inst.2.2
 
   next_are : after_inst last_store block ≡ something.0 ∷ something.1
@@ -489,14 +486,21 @@ module _ (c : Context) (block : List Inst) (region : ℕ) (s : Id) (stores : Lis
       (has_of all_bundles last_store (up_to last_store block) (up_to_has last_store block (find_times last_store block last_inst.0 last_inst.1))
       (member_joined all_bundles last_store ∙ of_stores.store_lane c block s stores formed each root last_store last_in_stores))
 
+  abbrev tree_on : List Inst → List Node
+  tree_on l = tree_in (plug c l) l (last_in (s ∷ stores) s l) (s ∷ stores)
+
+  abbrev OldGone : List Inst → Type 0
+  OldGone l =
+      (groups : List (List Inst)) → order (plug c l) l (last_in (s ∷ stores) s l) (bundles_of l (tree_on l)) ≡ Some groups →
+      (y : Id) → is_id_in (plan_of (plug c l) region l (tree_on l) (joined_ids (bundles_of l (tree_on l))) groups).gone y ≡ true → nat_eq y.region (suc region) ≡ false
+
   -- what holds of a list that is the block
   abbrev CutAs : (List Inst → Type 0) → List Inst → Type 0
   CutAs Result l =
-      IsFormed (plug c l) → ((y : Id) → 1 ≤ times y l → nat_eq y.region (suc region) ≡ false) → find s l ≡ Some store → Every (λ y. 1 ≤ times y l) (s ∷ stores) →
-      is_root_widened (tree_in (plug c l) l (last_in (s ∷ stores) s l) (s ∷ stores)) ≡ true →
-      before_member (bundles_of l (tree_in (plug c l) l (last_in (s ∷ stores) s l) (s ∷ stores))) l ≡ before_member all_bundles block →
-      window l (last_in (s ∷ stores) s l) (bundles_of l (tree_in (plug c l) l (last_in (s ∷ stores) s l) (s ∷ stores))) ≡ window block last_store all_bundles →
-      after_inst (last_in (s ∷ stores) s l) l ≡ something.0 ∷ something.1 → Result l
+      IsFormed (plug c l) → find s l ≡ Some store → Every (λ y. 1 ≤ times y l) (s ∷ stores) → is_root_widened (tree_on l) ≡ true →
+      before_member (bundles_of l (tree_on l)) l ≡ before_member all_bundles block →
+      window l (last_in (s ∷ stores) s l) (bundles_of l (tree_on l)) ≡ window block last_store all_bundles →
+      after_inst (last_in (s ∷ stores) s l) l ≡ something.0 ∷ something.1 → OldGone l → Result l
 
   abbrev Turned : List Inst → Type 0
   Turned l = changes (plug c l) region (s ∷ stores) ≡ changes_in_turn (plug c l) region (s ∷ stores)
@@ -504,22 +508,30 @@ module _ (c : Context) (block : List Inst) (region : ℕ) (s : Id) (stores : Lis
   abbrev Leading : List Inst → Type 0
   Leading l = IsFresh (plug c l) region → IsReached (graph_of (func_in c l)) (length c.blocks_before) → Leads (plug c l) region (s ∷ stores)
 
-  pub turned_of_block : ((y : Id) → 1 ≤ times y block → nat_eq y.region (suc region) ≡ false) → Turned block
-  turned_of_block old =
-      subst (CutAs Turned) cut
-      (λ f o e a t b v n. turned_law c (before_member all_bundles block) (window block last_store all_bundles) something.0 something.1 region s stores f o store e a t b v n)
-      formed old finds each root refl refl next_are
+  module _ (old_window : (y : Id) → 1 ≤ times y (window block last_store all_bundles) → nat_eq y.region (suc region) ≡ false) (old_next : nat_eq something.0.id.region (suc region) ≡ false) (old_gone : OldGone block) where
+    -- what goes, with all bundles joined
+    gone_old : (l : List Inst) (groups : List (List Inst)) → order (plug c l) l (last_in (s ∷ stores) s l) (bundles_of l (tree_on l)) ≡ Some groups → OldGone l →
+        (y : Id) → is_id_in (going (length l) (plug c l) (joined (bundles_of l (tree_on l))) (new_insts (plug c l) region (tree_on l) groups) l) y ≡ true → nat_eq y.region (suc region) ≡ false
+    gone_old l groups e g y h =
+        g groups e y (ap (λ ls. is_id_in (plan_of (plug c l) region l (tree_on l) ls groups).gone y) (joined_is (bundles_of l (tree_on l))) ∙ h)
 
-  pub law_of_block : IsFresh (plug c block) region → IsReached (graph_of (func_in c block)) (length c.blocks_before) → Leads (plug c block) region (s ∷ stores)
-  law_of_block fresh reached =
-      subst (CutAs Leading) cut
-      (λ f o e a t b v n w r. law c (before_member all_bundles block) (window block last_store all_bundles) something.0 something.1 region s stores f o store e a t b v n w r)
-      formed old finds each root refl refl next_are fresh reached
-    where
-      old : (y : Id) → 1 ≤ times y block → nat_eq y.region (suc region) ≡ false
-      old y some =
-          let le = old_region region y (module_ids (plug c block)) (every_of_all (λ (id : Id). id.region ≤ region) (module_ids (plug c block)) fresh) (of_stores.in_base c block s stores formed each root y some) in
-          grind (arith, nat_tests)
+    pub turned_of_block : Turned block
+    turned_of_block =
+        subst (CutAs Turned) cut
+        (λ f e a t b v n g. turned_law c (before_member all_bundles block) (window block last_store all_bundles) something.0 something.1 region s stores f old_window old_next store e a t b v n
+        (gone_old (before_member all_bundles block ++ (window block last_store all_bundles ++ something.0 ∷ something.1))
+        (ordered c (before_member all_bundles block) (window block last_store all_bundles) something.0 something.1 region s stores f old_window old_next store e a t b v n).0
+        (ordered c (before_member all_bundles block) (window block last_store all_bundles) something.0 something.1 region s stores f old_window old_next store e a t b v n).1 g))
+        formed finds each root refl refl next_are old_gone
+
+    pub law_of_block : Leading block
+    law_of_block =
+        subst (CutAs Leading) cut
+        (λ f e a t b v n g. law c (before_member all_bundles block) (window block last_store all_bundles) something.0 something.1 region s stores f old_window old_next store e a t b v n
+        (gone_old (before_member all_bundles block ++ (window block last_store all_bundles ++ something.0 ∷ something.1))
+        (ordered c (before_member all_bundles block) (window block last_store all_bundles) something.0 something.1 region s stores f old_window old_next store e a t b v n).0
+        (ordered c (before_member all_bundles block) (window block last_store all_bundles) something.0 something.1 region s stores f old_window old_next store e a t b v n).1 g))
+        formed finds each root refl refl next_are old_gone
 
 -- ---- a widened root has instructions of the block
 
@@ -555,23 +567,84 @@ root_of c block s stores f store finds w =
     subst (λ b. is_root_widened (tree_in (plug c block) b (last_in (s ∷ stores) s b) (s ∷ stores)) ≡ true)
     (ap block_of (found_plug c block s store finds (omega (arith, le, some)))) w
 
+-- no id of a fresh module is created
+fresh_old : (c : Context) (block : List Inst) (region : ℕ) → IsFresh (plug c block) region → (y : Id) → 1 ≤ times y block → nat_eq y.region (suc region) ≡ false
+fresh_old c block region fresh y some =
+    let ids = ids_plug c block y in
+    let le = old_region region y (module_ids (plug c block)) (every_of_all (λ (id : Id). id.region ≤ region) (module_ids (plug c block)) fresh) (omega (arith, ids, some)) in
+    grind (arith, nat_tests)
+
 pub changes_do_lead : ChangesLead
 changes_do_lead m region [] formed fresh lawful widened = absurd cc
 changes_do_lead m region (s ∷ stores) formed fresh lawful widened =
     let h = here_of m s stores formed lawful in
     subst (λ n. IsFormed n → IsFresh n region → is_root_widened (tree_of n (s ∷ stores)) ≡ true → Leads n region (s ∷ stores)) h.whole
-    (λ f r w. law_of_block h.context h.insts region s stores f h.store h.finds h.each (root_of h.context h.insts s stores f h.store h.finds w) r h.reached)
+    (λ f r w. in_context h.context h.insts f r h.store h.finds h.each (root_of h.context h.insts s stores f h.store h.finds w) h.reached)
     formed fresh widened
+  where
+    in_context : (c : Context) (block : List Inst) (f : IsFormed (plug c block)) → IsFresh (plug c block) region → (store : Inst) (finds : find s block ≡ Some store) (each : Every (λ y. 1 ≤ times y block) (s ∷ stores)) →
+        (root : is_root_widened (tree_in (plug c block) block (last_in (s ∷ stores) s block) (s ∷ stores)) ≡ true) → IsReached (graph_of (func_in c block)) (length c.blocks_before) → Leads (plug c block) region (s ∷ stores)
+    in_context c block f r store finds each root reached =
+        law_of_block c block region s stores f store finds each root
+        (λ y some. old y (let parts = in_cut y in omega (arith, parts, some)))
+        (old (something c block region s stores f store finds each root).0.id (
+        let parts = in_cut (something c block region s stores f store finds each root).0.id in
+        let one : one_of (something c block region s stores f store finds each root).0.id (something c block region s stores f store finds each root).0.id ≡ 1 = ap (λ b. cond b 1 0) (same_itself (something c block region s stores f store finds each root).0.id) in
+        omega (arith, parts, one)))
+        (λ groups e y g. old y (let l = gone_stands y groups g in find_times y block l.inst l.stands))
+        r reached
+      where
+        old : (y : Id) → 1 ≤ times y block → nat_eq y.region (suc region) ≡ false
+        old = fresh_old c block region r
+
+        in_cut : (y : Id) →
+            times y block ≡ times y (before_member (bundles_of block (tree_in (plug c block) block (last_in (s ∷ stores) s block) (s ∷ stores))) block)
+            + (times y (window block (last_in (s ∷ stores) s block) (bundles_of block (tree_in (plug c block) block (last_in (s ∷ stores) s block) (s ∷ stores))))
+            + (one_of (something c block region s stores f store finds each root).0.id y + times y (something c block region s stores f store finds each root).1))
+        in_cut y =
+            ap (times y) (sym (cut c block region s stores f store finds each root))
+            ∙ times_append y (before_member (bundles_of block (tree_in (plug c block) block (last_in (s ∷ stores) s block) (s ∷ stores))) block)
+            (window block (last_in (s ∷ stores) s block) (bundles_of block (tree_in (plug c block) block (last_in (s ∷ stores) s block) (s ∷ stores)))
+            ++ (something c block region s stores f store finds each root).0 ∷ (something c block region s stores f store finds each root).1)
+            ∙ ap (λ n. times y (before_member (bundles_of block (tree_in (plug c block) block (last_in (s ∷ stores) s block) (s ∷ stores))) block) + n)
+            (times_append y (window block (last_in (s ∷ stores) s block) (bundles_of block (tree_in (plug c block) block (last_in (s ∷ stores) s block) (s ∷ stores))))
+            ((something c block region s stores f store finds each root).0 ∷ (something c block region s stores f store finds each root).1))
+
+        gone_stands : (y : Id) (groups : List (List Inst)) →
+            is_id_in (plan_of (plug c block) region block (tree_in (plug c block) block (last_in (s ∷ stores) s block) (s ∷ stores)) (joined_ids (bundles_of block (tree_in (plug c block) block (last_in (s ∷ stores) s block) (s ∷ stores)))) groups).gone y ≡ true →
+            Leaves (plug c block) (joined_ids (bundles_of block (tree_in (plug c block) block (last_in (s ∷ stores) s block) (s ∷ stores))))
+            (new_insts (plug c block) region (tree_in (plug c block) block (last_in (s ∷ stores) s block) (s ∷ stores)) groups) block
+            (plan_of (plug c block) region block (tree_in (plug c block) block (last_in (s ∷ stores) s block) (s ∷ stores)) (joined_ids (bundles_of block (tree_in (plug c block) block (last_in (s ∷ stores) s block) (s ∷ stores)))) groups).gone y
+        gone_stands y groups g =
+            going_leaves (plug c block) (joined_ids (bundles_of block (tree_in (plug c block) block (last_in (s ∷ stores) s block) (s ∷ stores))))
+            (new_insts (plug c block) region (tree_in (plug c block) block (last_in (s ∷ stores) s block) (s ∷ stores)) groups) block
+            (λ z. let le = times_few c block f z in omega (arith, le)) (length block) y g
 
 pub changes_go_in_turn : RemovedInTurn
-changes_go_in_turn m region x stores s formed found_is none widened =
+changes_go_in_turn m region x stores s formed found_is own widened =
     let at = split_found m x s found_is in
-    subst (λ n. IsFormed n → is_root_widened (tree_of n (x ∷ stores)) ≡ true → changes n region (x ∷ stores) ≡ changes_in_turn n region (x ∷ stores)) at.whole
-    (λ f w. let root = root_of at.context s.block x stores f s.inst at.finds w in
-    turned_of_block at.context s.block region x stores f s.inst at.finds (root_each (plug at.context s.block) s.block (last_in (x ∷ stores) x s.block) (x ∷ stores) root) root old)
-    formed widened
+    subst
+    (λ n. IsFormed n → found n x ≡ Some s → IsOwn n region s.block (last_in (x ∷ stores) x s.block) (tree_of n (x ∷ stores)) → is_root_widened (tree_of n (x ∷ stores)) ≡ true →
+    changes n region (x ∷ stores) ≡ changes_in_turn n region (x ∷ stores))
+    at.whole
+    (λ f e o w. in_context at.context f at.finds
+    (subst (λ b. IsOwn (plug at.context s.block) region s.block (last_in (x ∷ stores) x s.block) (tree_in (plug at.context s.block) b (last_in (x ∷ stores) x b) (x ∷ stores))) (ap block_of e) o)
+    (root_of at.context s.block x stores f s.inst at.finds w))
+    formed found_is own widened
   where
-    old : (y : Id) → 1 ≤ times y s.block → nat_eq y.region (suc region) ≡ false
-    old y some =
-        let f = find_some y s.block some in
-        ap (λ (v : Id). nat_eq v.region (suc region)) (sym (same_is f.0.id y (find_id y s.block f.0 f.1))) ∙ none y f.0 f.1
+    in_context : (c : Context) (f : IsFormed (plug c s.block)) (finds : find x s.block ≡ Some s.inst) →
+        IsOwn (plug c s.block) region s.block (last_in (x ∷ stores) x s.block) (tree_in (plug c s.block) s.block (last_in (x ∷ stores) x s.block) (x ∷ stores)) →
+        (root : is_root_widened (tree_in (plug c s.block) s.block (last_in (x ∷ stores) x s.block) (x ∷ stores)) ≡ true) →
+        changes (plug c s.block) region (x ∷ stores) ≡ changes_in_turn (plug c s.block) region (x ∷ stores)
+    in_context c f finds o root =
+        turned_of_block c s.block region x stores f s.inst finds each root
+        (λ y some. o.window y (times_any y (window s.block (last_in (x ∷ stores) x s.block) (bundles_of s.block (tree_in (plug c s.block) s.block (last_in (x ∷ stores) x s.block) (x ∷ stores)))) some))
+        (o.next (something c s.block region x stores f s.inst finds each root).0.id
+        (next_is (last_in (x ∷ stores) x s.block) s.block ∙ ap id_of (next_are c s.block region x stores f s.inst finds each root)))
+        o.gone
+      where
+        each : Every (λ y. 1 ≤ times y s.block) (x ∷ stores)
+        each = root_each (plug c s.block) s.block (last_in (x ∷ stores) x s.block) (x ∷ stores) root
+
+        times_any : (y : Id) (l : List Inst) → 1 ≤ times y l → is_id_in (ids_of l) y ≡ true
+        times_any y l some = any_times y l some

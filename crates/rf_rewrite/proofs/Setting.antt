@@ -47,7 +47,8 @@ pub record Setting (globals region : ℕ) (base : Id → ℕ) (c : Context) (fro
       (users lanes gone (uses_of y (funcs_of (plug c (front ++ (window ++ x ∷ zs))).items)) ≡ true) × (uses_value y new ≡ false)
   pub unused : (y : Id) → uses_value y new ≡ false → Every (λ (i : Inst). is_created region i ≡ true → uses_id y i ≡ false) ws
   pub covers : (y : Id) → 1 ≤ times y window → is_id_in lanes y ≡ false → is_id_in gone y ≡ false → 1 ≤ times y ws
-  pub old : (y : Id) → 1 ≤ times y (front ++ (window ++ x ∷ zs)) → nat_eq y.region (suc region) ≡ false
+  pub old : (y : Id) → 1 ≤ times y window → nat_eq y.region (suc region) ≡ false
+  pub old_gone : (y : Id) → is_id_in gone y ≡ true → nat_eq y.region (suc region) ≡ false
 
 -- what an instruction uses stands before it
 abbrev pub Earlier : Context → List Inst → Type 0
@@ -107,13 +108,14 @@ module _ (globals region : ℕ) (base : Id → ℕ) (c : Context) (front window 
     pub used : users lanes gone (uses_of y (funcs_of (plug c block).items)) ≡ true
     pub created : uses_value y new ≡ false
     pub unwritten : times y ws ≡ 0
+    pub old : nat_eq y.region (suc region) ≡ false
 
   removed : (y : Id) → is_id_in ds y ≡ true → Removed y
   removed y h = by_case (removed_case y h)
     where
       by_case : ((is_id_in lanes y ≡ true) × (times y ws ≡ 0)) ⊎ (is_id_in gone y ≡ true) → Removed y
-      by_case (inl e) = let u = s.unwanted y e.0 e.1 in record { may = (s.lane y e.0).1; used = u.0; created = u.1; unwritten = e.1 }
-      by_case (inr e) = let g = s.goes y e in record { may = g.0; used = g.2; created = g.3; unwritten = s.unwritten y e }
+      by_case (inl e) = let u = s.unwanted y e.0 e.1 in record { may = (s.lane y e.0).1; used = u.0; created = u.1; unwritten = e.1; old = s.old y (s.lane y e.0).0 }
+      by_case (inr e) = let g = s.goes y e in record { may = g.0; used = g.2; created = g.3; unwritten = s.unwritten y e; old = s.old_gone y e }
 
   stands_once : (y : Id) → is_id_in ds y ≡ true → times y block ≡ 1
   stands_once y h = let r = removed y h in let some = find_times y block r.may.inst r.may.stands in let le = s.few y in omega (arith, some, le)
@@ -212,7 +214,7 @@ module _ (globals region : ℕ) (base : Id → ℕ) (c : Context) (front window 
           vector true t =
               let same : suc region ≡ y.region = ap (λ (v : Id). v.region) (same_is (created region ex.1.0) y t) in
               let r = removed y h in
-              let young = s.old y (let some = find_times y block r.may.inst r.may.stands in omega (arith, some)) in
+              let young = r.old in
               absurd (grind (arith, nat_tests))
           vector false t = refl
       by_kind (inr (inr kept)) = by_use (uses_id y i) refl
@@ -284,7 +286,7 @@ module _ (globals region : ℕ) (base : Id → ℕ) (c : Context) (front window 
     where
       by_number : (n : ℕ) → times z ws ≡ n → times z ws ≡ 0
       by_number zero e = e
-      by_number (suc n) e = absurd (true_false (sym (stands_moved globals region lanes ws z (omega (arith, e)) (s.old z (window_in z some))) ∙ t))
+      by_number (suc n) e = absurd (true_false (sym (stands_moved globals region lanes ws z (omega (arith, e)) (s.old z some)) ∙ t))
 
   stays_window : (z : Id) → 1 ≤ times z window → is_id_in (moved globals region lanes ws) z ≡ false → (is_id_in lanes z || is_id_in gone z) ≡ true → is_id_in ds z ≡ true
   stays_window z some t q = by_test (is_id_in lanes z) refl q

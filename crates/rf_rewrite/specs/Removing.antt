@@ -2,7 +2,7 @@
 --
 -- Ids go in turn where each goes with those before it. Once no other instruction goes with them, they are what goes. What is removed is used
 -- by what is removed alone, so the next one is the greatest id that no instruction of those left uses.
-use Rattle.std.specs.Prelude.{◌≡◌, refl, ℕ, zero, suc, Bool, true, false, not, ◌||◌, cond, Option, None, Some, List, [], ◌∷◌, ◌++◌, map, length, option_map, ⊤}
+use Rattle.std.specs.Prelude.{◌≡◌, refl, ℕ, zero, suc, Bool, true, false, not, ◌||◌, cond, nat_eq, Option, None, Some, List, [], ◌∷◌, ◌++◌, map, length, option_map, ⊤}
 use Rattle.std.specs.List.{list_any}
 use Rattle.std.specs.Int.{int_wrap}
 use Rattle.ir_types.specs.declared.id.Id.{Id}
@@ -14,10 +14,10 @@ use Rattle.vx_view.specs.declared.change.Change.TheVariants.{Remove}
 use Rattle.vx_view.specs.Answers.{find, found, Standing, after, is_value}
 use Rattle.vx_view.specs.Addresses.{block_of}
 use Rattle.vx_serial.specs.declared.node.Node.{Node}
-use Rattle.vx_serial.specs.Window.{id, order}
+use Rattle.vx_serial.specs.Window.{id, window, order}
 use Rattle.vx_serial.specs.Legal.{bundles_of, ids_of, sums_of, adding}
 use Rattle.vx_serial.specs.Tree.{tree_of, last_in}
-use Rattle.vx_serial.specs.Rewriting.{Plan, plan_of, rewritten_window, is_created, is_id_in, joined_ids, without, uses_value, goes_with, going}
+use Rattle.vx_serial.specs.Rewriting.{Plan, plan_of, rewritten_window, is_id_in, joined_ids, without, uses_value, goes_with, going}
 use Rattle.vx_serial.specs.Changing.{steps, greater, other_than, not_among, changes}
 use Rattle.rf_rewrite.specs.Rewritten.{is_root_widened}
 
@@ -95,16 +95,25 @@ changes_in_turn m region [] = None
 changes_in_turn m region (s ∷ stores) = changes_of m region (block_of (found m s)) (last_in (s ∷ stores) s (block_of (found m s))) (tree_of m (s ∷ stores))
     (bundles_of (block_of (found m s)) (tree_of m (s ∷ stores)))
 
--- no instruction of a list has an id that a region creates
-abbrev pub NoneCreated : ℕ → List Inst → Type 0
-NoneCreated region insts = (x : Id) (i : Inst) → find x insts ≡ Some i → is_created region i ≡ false
+-- an id that the region does not create
+abbrev pub IsOld : ℕ → Id → Type 0
+IsOld region y = nat_eq y.region (suc region) ≡ false
 
--- the law: where the bundle of stores is widened and the region's ids are none of their block, they are the region's changes, whether they
--- fit or not
+abbrev pub AreOld : ℕ → List Id → Type 0
+AreOld region ids = (y : Id) → is_id_in ids y ≡ true → IsOld region y
+
+-- the region creates no id of the window of its bundles, nor that of the instruction after it, nor any of what goes
+pub record IsOwn (m : Module) (region : ℕ) (block : List Inst) (last : Id) (tree : List Node) : Type 0 where
+  pub window : AreOld region (ids_of (window block last (bundles_of block tree)))
+  pub next : (x : Id) → after last block ≡ Some x → IsOld region x
+  pub gone : (groups : List (List Inst)) → order m block last (bundles_of block tree) ≡ Some groups →
+      AreOld region (plan_of m region block tree (joined_ids (bundles_of block tree)) groups).gone
+
+-- the law: where the bundle of stores is widened and the region's ids are its own, they are the region's changes, whether they fit or not
 abbrev pub RemovedInTurn : Type 0
 RemovedInTurn =
-    (m : Module) (region : ℕ) (x : Id) (stores : List Id) (s : Standing) → IsFormed m → found m x ≡ Some s → NoneCreated region s.block → is_root_widened (tree_of m (x ∷ stores)) ≡ true →
-    changes m region (x ∷ stores) ≡ changes_in_turn m region (x ∷ stores)
+    (m : Module) (region : ℕ) (x : Id) (stores : List Id) (s : Standing) → IsFormed m → found m x ≡ Some s → IsOwn m region s.block (last_in (x ∷ stores) x s.block) (tree_of m (x ∷ stores)) →
+    is_root_widened (tree_of m (x ∷ stores)) ≡ true → changes m region (x ∷ stores) ≡ changes_in_turn m region (x ∷ stores)
 
 -- ---- worked examples
 

@@ -16,8 +16,8 @@ pub fn gone_are()
     ensures { GoneAre }
 {}
 
-/// In a formed module, where the bundle of stores is widened and none of their block has an id that the region creates, the region's changes
-/// remove at each time the greatest id that no instruction of those left to remove uses.
+/// In a formed module, where the bundle of stores is widened and the region creates no id that is there already, the region's changes remove at
+/// each time the greatest id that no instruction of those left to remove uses.
 pub fn removed_in_turn()
     ensures { RemovedInTurn }
 {}
