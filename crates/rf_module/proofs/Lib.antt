@@ -3,3 +3,6 @@ pub mod Lines
 pub mod Exchange
 pub mod Exchanged
 pub mod Links
+pub mod Types
+pub mod Nodes
+pub mod Forms
