@@ -6,3 +6,5 @@ pub mod Links
 pub mod Types
 pub mod Nodes
 pub mod Forms
+pub mod Turns
+pub mod Steps

@@ -12,12 +12,13 @@ use Rattle.vx_order.specs.Order.{order_on}
 use Rattle.vx_order.specs.Walks.{Ascends}
 use Rattle.vx_order.proofs.Placing.{head_or_more, at_head, in_more}
 use Rattle.vx_view.specs.Conflicts.{depends}
-use Rattle.vx_serial.specs.Window.{is_member, place_of, singles, groups_in, edges_from, edges_in, with_inst, insts_at, joined}
+use Rattle.vx_serial.specs.Window.{is_member, place_of, singles, groups_in, edges_from, edges_in, with_inst, insts_at, order_in, joined}
+use Rattle.vx_serial.specs.Bundles.{AreOnce, ids_of, AreBundles}
 use Rattle.rf_order.specs.Rows.{NoneBefore, Reordered}
 use Rattle.vx_serial.proofs.Grouped.{group_of}
 use Rattle.vx_serial.proofs.Places.{groups_cover, groups_distinct, places_all, places_ascend, places_from, places_long}
 use Rattle.rf_order.specs.Windows.{OrdersReorder}
-use Rattle.rf_order.proofs.Schedules.{place_is, Stands, flat_reordered}
+use Rattle.rf_order.proofs.Schedules.{place_is, Stands, flat_reordered, InTurn, groups_in_turn}
 
 -- ---- the instructions of places
 
@@ -150,3 +151,37 @@ orders_reordered m block insts bundles once are groups e = by_order (order_on (p
     where
       some : Some (map (λ g. insts_at insts (get_or gs g [])) (map (owner_of gs) vs)) ≡ Some groups → map (λ g. insts_at insts (get_or gs g [])) (map (owner_of gs) vs) ≡ groups
       some e = cc
+
+-- the groups of an order are those of places, of which each stands after all that its members depend on
+pub record Turning (m : Module) (block insts : List Inst) (groups : List (List Inst)) : Type 0 where
+  pub places : List (List ℕ)
+  pub are : groups ≡ map (insts_at insts) places
+  pub turn : InTurn (depends_at m block insts) (λ x. false) places
+
+pub orders_in_turn : (m : Module) (block insts : List Inst) (bundles : List (List Id)) → AreOnce (ids_of insts) → AreBundles insts bundles → (groups : List (List Inst)) → order_in m block insts bundles ≡ Some groups →
+    Turning m block insts groups
+orders_in_turn m block insts bundles once are groups e = by_order (order_on (positions gs) (links_of gs es)) refl e where
+  gs : List (List ℕ)
+  gs = groups_in bundles insts
+
+  es : List (ℕ × ℕ)
+  es = edges_in m block 0 insts
+
+  by_order : (o : Option (List ℕ)) → order_on (positions gs) (links_of gs es) ≡ o →
+      option_map (map (λ g. insts_at insts (get_or gs g []))) (option_map (map (owner_of gs)) o) ≡ Some groups → Turning m block insts groups
+  by_order None is e = absurd cc
+  by_order (Some vs) is e =
+      let p = place_is (positions gs) (links_of gs es) (positions gs) [] vs is in
+      record {
+        places = map (group_of gs) p.more;
+        are = sym (some e) ∙ ap (λ us. map (λ g. insts_at insts (get_or gs g [])) (map (owner_of gs) us)) p.is ∙ mapped p.more;
+        turn = groups_in_turn gs (length insts) es (depends_at m block insts) (groups_distinct insts bundles once are) (groups_cover insts bundles once are)
+            (λ x y less d. edges_stand m block insts x y less d) (places_from 0 insts) (places_ascend 0 0 insts (omega arith)) (places_all insts) (places_long 0 insts) p.more p.chosen p.long;
+      }
+    where
+      some : Some (map (λ g. insts_at insts (get_or gs g [])) (map (owner_of gs) vs)) ≡ Some groups → map (λ g. insts_at insts (get_or gs g [])) (map (owner_of gs) vs) ≡ groups
+      some e = cc
+
+      mapped : (us : List ℕ) → map (λ g. insts_at insts (get_or gs g [])) (map (owner_of gs) us) ≡ map (insts_at insts) (map (group_of gs) us)
+      mapped [] = refl
+      mapped (u ∷ us) = ap (λ r. insts_at insts (group_of gs u) ∷ r) (mapped us)
