@@ -8,3 +8,4 @@ pub mod Nodes
 pub mod Forms
 pub mod Turns
 pub mod Steps
+pub mod Slots

@@ -173,7 +173,7 @@ module _ (m : Module) (f : Func) (number region : ℕ) where
         (n, w, 64, row, refl, refl, ap (λ u. u ∷ ty_by m f number known o ∷ Some (Int 64) ∷ []) tv ∙ ap (λ u. Some (Row n w) ∷ u ∷ Some (Int 64) ∷ []) t) tt refl refl
 
     module _ (final : Made) (within : (y : Id) → uses_value y (only_created region final.insts) ≡ true → uses_value y new ≡ true) where
-      gathered_typed : (known : Known) (at : ℕ) (os : List Opd) (g : Gathering) → at + length os ≤ 16 → Every (ReadyIf known) os → ty_by m f number known g.vector ≡ Some (Row n w) → IsOpd g.vector → IsPoisonIfPointer g.vector →
+      pub gathered_typed : (known : Known) (at : ℕ) (os : List Opd) (g : Gathering) → at + length os ≤ 16 → Every (ReadyIf known) os → ty_by m f number known g.vector ≡ Some (Row n w) → IsOpd g.vector → IsPoisonIfPointer g.vector →
           Free known g.made_so_far.next → (rest : List Inst) → final.insts ≡ (gathered region (Row n w) at os g).made_so_far.insts ++ rest → Gathered known g (gathered region (Row n w) at os g)
       gathered_typed known at [] g le ready tv ov pv free rest e = record {
         more = [];
