@@ -9,3 +9,4 @@ pub mod Forms
 pub mod Turns
 pub mod Steps
 pub mod Slots
+pub mod Bundles
