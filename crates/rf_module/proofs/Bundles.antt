@@ -1,11 +1,10 @@
 -- A widened bundle: its slots, its vector instruction and its extracts are fine where they stand.
-use Rattle.std.proofs.Common.{◌≡◌, refl, sym, ap, ◌∙◌, subst, ℕ, zero, suc, ◌+◌, ◌*◌, ◌<◌, ◌≤◌, ◌⊎◌, inl, inr, Bool, true, false, not, ◌&&◌, ◌||◌, Option, None, Some, List, [], ◌∷◌, ◌++◌, map, cond, nat_eq, nat_lt, slice_get, take, if◌then◌else◌, arith, length, append_assoc}
-use Rattle.std.specs.Bool.{⊤}
-use Rattle.std.specs.List.{All, list_any, list_all}
+use Rattle.std.proofs.Common.{◌≡◌, refl, sym, ap, ◌∙◌, subst, ℕ, zero, suc, ◌+◌, ◌≤◌, Bool, true, false, ◌||◌, Option, None, Some, List, [], ◌∷◌, map, nat_eq, nat_lt, slice_get, take, if◌then◌else◌, arith, length}
+use Rattle.std.specs.List.{list_any}
 use Rattle.std.proofs.lemmas.Bool.Decides.{nat_tests}
 use Rattle.ir_types.specs.declared.id.Id.{Id}
 use Rattle.ir_types.specs.declared.ty.Ty.{Ty}
-use Rattle.ir_types.specs.declared.ty.Ty.TheVariants.{Void, Int, Ptr, Row}
+use Rattle.ir_types.specs.declared.ty.Ty.TheVariants.{Int, Ptr, Row}
 use Rattle.ir_types.specs.declared.literal.Literal.{Literal}
 use Rattle.ir_types.specs.declared.opd.Opd.{Opd}
 use Rattle.ir_types.specs.declared.opd.Opd.TheVariants.{Val, Lit, Sym}
@@ -16,28 +15,26 @@ use Rattle.ir_types.specs.declared.func.Func.{Func}
 use Rattle.ir_types.specs.declared.module.Module.{Module}
 use Rattle.ir_types.specs.Available.{same_id}
 use Rattle.ir_types.specs.Typed.{is_count, is_vector, is_scalar, IsLiteral, IsTyped}
-use Rattle.ir_types.specs.Formed.{given_ty, value_ty, opd_ty, IsOpd, IsFormed, IsFormedInst, IsPoisonIfPointer}
-use Rattle.ir_types.proofs.Formed.{Every, every_of_all, every_at, IsThere, opds_there}
+use Rattle.ir_types.specs.Formed.{given_ty, value_ty, opd_ty, IsOpd, IsFormedInst}
+use Rattle.ir_types.proofs.Formed.{Every, every_of_all, every_at}
 use Rattle.ir_types.proofs.Among.{same_is, same_itself}
 use Rattle.vx_view.specs.Answers.{find, is_value as holds}
 use Rattle.vx_serial.specs.declared.node.How.{How}
 use Rattle.vx_serial.specs.declared.node.How.TheVariants.{Widen, Reuse, Ident, Pack}
 use Rattle.vx_serial.specs.declared.node.Node.{Node}
-use Rattle.vx_serial.specs.Legal.{is_widened, inst_of, insts_of, ty_of, of_lanes, element_by, element_of, indexed, is_element, are_elements, is_root}
-use Rattle.vx_serial.specs.Tree.{with_opd, slot, slots_from}
-use Rattle.vx_serial.specs.Rewriting.{Made, row_of, first_ty, vector_of, is_id_in, uses_value}
-use Rattle.vx_serial.proofs.Decided.{true_false, and_left, and_right}
+use Rattle.vx_serial.specs.Legal.{is_widened, of_lanes, element_by, element_of, indexed, is_element, are_elements}
+use Rattle.vx_serial.specs.Rewriting.{row_of, first_ty, vector_of, is_id_in, uses_value}
+use Rattle.vx_serial.proofs.Decided.{and_left}
 use Rattle.rf_rewrite.proofs.Contexts.{Context, plug, times, around}
 use Rattle.rf_rewrite.proofs.Window.{find_times}
 use Rattle.rf_rewrite.proofs.Gone.{uses_id}
 use Rattle.rf_rewrite.proofs.Blocks.{func_in}
-use Rattle.rf_module.proofs.Lines.{Known, after, ty_by}
+use Rattle.rf_module.proofs.Lines.{Known}
 use Rattle.rf_module.proofs.Types.{ty_is}
-use Rattle.rf_module.proofs.Links.{Lead, Complete, AllComplete}
-use Rattle.rf_module.proofs.Nodes.{Told, told_as, Reused, reused_is, Elements, identity_is}
-use Rattle.rf_module.proofs.Forms.{scalar_tys, Form}
+use Rattle.rf_module.specs.Trees.{Complete, AllComplete}
+use Rattle.rf_module.proofs.Nodes.{Told, told_as, reused_is, Elements, identity_is}
 use Rattle.rf_module.proofs.Steps.{ReadyIf}
-use Rattle.rf_module.proofs.Slots.{SlotReady, Rows, SlotsReady}
+use Rattle.rf_module.proofs.Slots.{SlotReady}
 
 some_is : {A : Type 0} {p q : A} → Some p ≡ Some q → p ≡ q
 some_is e = cc

@@ -1,7 +1,5 @@
 -- Another row of instructions in a block: the types of values in the function, the graph, and where definitions stand.
-use Rattle.std.proofs.Common.{◌≡◌, refl, sym, ap, ◌∙◌, subst, ℕ, zero, suc, ◌+◌, ◌<◌, ◌≤◌, ◌⊎◌, inl, inr, Bool, true, false, ◌&&◌, ◌||◌, Option, None, Some, List, [], ◌∷◌, ◌++◌, map, cond, nat_eq, nat_lt, slice_get, take, if◌then◌else◌, arith, length, append_assoc}
-use Rattle.std.specs.Bool.{⊤}
-use Rattle.std.specs.List.{list_any}
+use Rattle.std.proofs.Common.{◌≡◌, refl, sym, ap, ◌∙◌, ℕ, zero, suc, ◌+◌, ◌≤◌, Bool, true, false, ◌||◌, Option, None, Some, List, [], ◌∷◌, ◌++◌, map, cond, nat_eq, nat_lt, slice_get, take, if◌then◌else◌, arith, length}
 use Rattle.std.proofs.lemmas.Bool.Decides.{nat_tests}
 use Rattle.ir_types.specs.declared.id.Id.{Id}
 use Rattle.ir_types.specs.declared.ty.Ty.{Ty}
@@ -11,20 +9,18 @@ use Rattle.ir_types.specs.declared.inst.Inst.{Inst}
 use Rattle.ir_types.specs.declared.func.Param.{Param}
 use Rattle.ir_types.specs.declared.func.Block.{Block}
 use Rattle.ir_types.specs.declared.func.Func.{Func}
-use Rattle.ir_types.specs.declared.module.Module.{Module}
 use Rattle.ir_types.specs.Walks.{EndsFrom}
-use Rattle.ir_types.specs.Available.{same_id, block_targets, graph_of, is_param, defines, insts_of, insts_at, stands_from, stands_on}
+use Rattle.ir_types.specs.Available.{same_id, block_targets, graph_of, defines, insts_of, insts_at, stands_from}
 use Rattle.ir_types.specs.Formed.{given_ty, ty_in_insts, ty_in_blocks, ty_in_params, or_else, value_ty, opd_ty, block_ids}
 use Rattle.ir_types.proofs.Formed.{Every, IsThere}
-use Rattle.ir_types.proofs.Among.{same_is, same_itself}
 use Rattle.vx_view.specs.Answers.{find}
 use Rattle.sb_uses.specs.Totals.{id_times}
 use Rattle.vx_serial.proofs.Decided.{true_false}
-use Rattle.rf_rewrite.proofs.Contexts.{Context, func_with, block_with, plug, one_of, times, times_append, inst_ids, param_ids, ids_append, times_ids, around, some_find}
+use Rattle.rf_rewrite.proofs.Contexts.{Context, block_with, plug, times, inst_ids, param_ids, ids_append, times_ids, around}
 use Rattle.rf_rewrite.proofs.Parts.{defines_none}
 use Rattle.rf_rewrite.proofs.Window.{find_times}
 use Rattle.rf_rewrite.proofs.Gone.{find_some}
-use Rattle.rf_rewrite.proofs.Blocks.{get_split, func_in, times_few}
+use Rattle.rf_rewrite.proofs.Blocks.{get_split, func_in}
 use Rattle.rf_rewrite.proofs.Facts.{map_append}
 
 -- ---- lists with another member at one place

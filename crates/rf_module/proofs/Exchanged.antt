@@ -1,5 +1,5 @@
 -- A formed module with another row of instructions in a block stays formed, where the row is fine line by line and loses nothing that is used.
-use Rattle.std.proofs.Common.{◌≡◌, refl, sym, ap, ◌∙◌, subst, ℕ, zero, suc, ◌+◌, ◌<◌, ◌≤◌, ◌⊎◌, inl, inr, Bool, true, false, ◌&&◌, ◌||◌, Option, None, Some, List, [], ◌∷◌, ◌++◌, map, cond, nat_eq, nat_lt, slice_get, take, if◌then◌else◌, arith, length, append_assoc}
+use Rattle.std.proofs.Common.{◌≡◌, refl, sym, ap, ◌∙◌, subst, ℕ, zero, suc, ◌+◌, ◌<◌, ◌≤◌, ◌⊎◌, inl, inr, Bool, true, false, ◌||◌, Option, None, Some, List, [], ◌∷◌, ◌++◌, map, cond, nat_eq, nat_lt, slice_get, take, if◌then◌else◌, arith, length}
 use Rattle.std.specs.Bool.{⊤}
 use Rattle.std.specs.List.{All, AllPairs, Contains, list_any}
 use Rattle.std.proofs.lemmas.Bool.Decides.{nat_tests}
@@ -17,15 +17,15 @@ use Rattle.ir_types.specs.declared.func.Func.{Func}
 use Rattle.ir_types.specs.declared.module.Item.{Item}
 use Rattle.ir_types.specs.declared.module.Item.TheVariants.{Kept, Opaque, Func as FuncItem}
 use Rattle.ir_types.specs.declared.module.Module.{Module}
-use Rattle.ir_types.specs.Walks.{targets_at, IsWalk, EndsAt, EndsFrom}
-use Rattle.ir_types.specs.Available.{same_id, op_targets, block_targets, graph_of, Each, is_param, defines, insts_of, insts_at, stands_from, stands_on, walk_end, before_use, IsAvailableAt, IsAvailableOpd, IsAvailableInst, IsAvailableBlock, IsAvailableFunc, IsAvailableItem}
+use Rattle.ir_types.specs.Walks.{targets_at, IsWalk, EndsAt}
+use Rattle.ir_types.specs.Available.{same_id, op_targets, block_targets, graph_of, Each, is_param, defines, insts_at, stands_from, stands_on, walk_end, before_use, IsAvailableAt, IsAvailableOpd, IsAvailableBlock, IsAvailableFunc, IsAvailableItem}
 use Rattle.ir_types.specs.Typed.{IsTyped}
-use Rattle.ir_types.specs.Formed.{given_ty, value_ty, opd_ty, is_phi, is_alloca, EndsOnce, PhisFirst, IsTarget, IsIncoming, IsCalling, IsFormedInst, IsFormedBlock, IsFormedFunc, IsFormedItem, IsPlainInst, IsPlainBlock, IsPlainFunc, IsPlainItem, function_names, ids_of, IsFormed}
-use Rattle.ir_types.proofs.Formed.{Every, every_of_all, every_of_each, every_at, every_more, IsThere, typed_there, opds_there}
-use Rattle.ir_types.proofs.Among.{same_is, same_itself}
-use Rattle.vx_view.specs.Answers.{find, funcs_of, uses_of, uses_in, uses_in_blocks, slots_from, is_value}
+use Rattle.ir_types.specs.Formed.{given_ty, value_ty, opd_ty, is_phi, EndsOnce, PhisFirst, IsTarget, IsIncoming, IsCalling, IsFormedInst, IsFormedBlock, IsFormedFunc, IsFormedItem, IsPlainInst, IsPlainBlock, IsPlainFunc, IsPlainItem, function_names, ids_of, IsFormed}
+use Rattle.ir_types.proofs.Formed.{Every, every_of_all, every_at, every_more, IsThere, typed_there, opds_there}
+use Rattle.ir_types.proofs.Among.{same_itself}
+use Rattle.vx_view.specs.Answers.{find, uses_in, uses_in_blocks, slots_from, is_value}
 use Rattle.vx_serial.proofs.Decided.{true_false}
-use Rattle.rf_rewrite.proofs.Contexts.{Context, func_with, block_with, items_with, plug, one_of, times, times_append, around, ids_plug}
+use Rattle.rf_rewrite.proofs.Contexts.{Context, block_with, items_with, plug, one_of, times, times_append, around, ids_plug}
 use Rattle.rf_rewrite.proofs.Parts.{NoneAround}
 use Rattle.rf_rewrite.proofs.Window.{find_times, find_front}
 use Rattle.rf_rewrite.proofs.Gone.{uses_id, find_some}
@@ -34,7 +34,7 @@ use Rattle.rf_rewrite.proofs.Earlier.{plain_end, plain_before}
 use Rattle.sb_uses.specs.Totals.{id_times}
 use Rattle.std.specs.Prelude.{get_or}
 use Rattle.rf_module.proofs.Lines.{Known, next, after, after_none, after_found, ty_by, LineOk, Lines, line_at}
-use Rattle.rf_module.proofs.Exchange.{get_other, same_other, same_length, take_all, defines_times, times_defines, own_ty, kept_ty, Stay, tys_kept, graph_same, own_number, insts_own, insts_other, stands_kept, stands_last}
+use Rattle.rf_module.proofs.Exchange.{get_other, same_length, take_all, defines_times, times_defines, own_ty, kept_ty, Stay, tys_kept, graph_same, insts_own, insts_other, stands_kept, stands_last}
 
 -- ---- lists
 

@@ -1,5 +1,5 @@
 -- The vector form of an operation on integers: its types lane by lane, and the flags that all lanes have.
-use Rattle.std.proofs.Common.{◌≡◌, refl, sym, ap, ◌∙◌, subst, ℕ, zero, suc, ◌+◌, ◌*◌, ◌<◌, ◌≤◌, ◌⊎◌, inl, inr, Bool, true, false, not, ◌&&◌, ◌||◌, Option, None, Some, List, [], ◌∷◌, ◌++◌, map, cond, nat_eq, nat_lt, nat_le, arith, length}
+use Rattle.std.proofs.Common.{◌≡◌, refl, sym, ap, ◌∙◌, subst, ℕ, zero, suc, ◌*◌, ◌≤◌, ◌⊎◌, inl, inr, Bool, true, false, not, ◌&&◌, ◌||◌, Option, Some, List, [], ◌∷◌, ◌++◌, map, nat_le, arith, length}
 use Rattle.std.specs.Bool.{⊤}
 use Rattle.std.specs.List.{list_any, list_all}
 use Rattle.std.proofs.lemmas.Bool.Decides.{nat_tests}
@@ -14,12 +14,12 @@ use Rattle.ir_types.specs.declared.opd.Opd.{Opd}
 use Rattle.ir_types.specs.declared.op.Op.{Op}
 use Rattle.ir_types.specs.declared.op.Op.TheVariants as op
 use Rattle.ir_types.specs.declared.inst.Inst.{Inst}
-use Rattle.ir_types.specs.Typed.{is_width, is_count, is_vector, is_scalar, is_number, is_value, is_stored, lane_width, with_width, has_flags, Converts, IsTyped}
+use Rattle.ir_types.specs.Typed.{is_width, is_count, is_vector, is_scalar, is_number, is_stored, lane_width, with_width, has_flags, Converts, IsTyped}
 use Rattle.ir_types.specs.Formed.{is_store}
-use Rattle.vx_serial.specs.Legal.{is_kind, may_widen, is_too_wide}
+use Rattle.vx_serial.specs.Legal.{is_kind, is_too_wide}
 use Rattle.vx_serial.specs.Tree.{slots_of}
 use Rattle.vx_serial.specs.Rewriting.{both, common, common_op, pointer_of}
-use Rattle.vx_serial.proofs.Decided.{true_false, and_left, and_right}
+use Rattle.vx_serial.proofs.Decided.{true_false, and_right}
 
 -- ---- fewer flags
 
@@ -52,8 +52,11 @@ both_assoc f g h =
     (and_assoc f.nuw g.nuw h.nuw) (and_assoc f.nsw g.nsw h.nsw) (and_assoc f.exact g.exact h.exact) (and_assoc f.disjoint g.disjoint h.disjoint)
 
 lessened_itself : (o : Op) → Lessened o o
-lessened_itself (op.Bin o f) = (record { nuw = true; nsw = true; exact = true; disjoint = true }, ap (op.Bin o) (sym (
-    flags_same (f.nuw && true) (f.nsw && true) (f.exact && true) (f.disjoint && true) f.nuw f.nsw f.exact f.disjoint (and_true f.nuw) (and_true f.nsw) (and_true f.exact) (and_true f.disjoint))))
+lessened_itself (op.Bin o f) = (
+  record { nuw = true; nsw = true; exact = true; disjoint = true },
+  ap (op.Bin o) (sym (
+      flags_same (f.nuw && true) (f.nsw && true) (f.exact && true) (f.disjoint && true) f.nuw f.nsw f.exact f.disjoint (and_true f.nuw) (and_true f.nsw) (and_true f.exact) (and_true f.disjoint))),
+)
 lessened_itself (op.Cast o n) = (true, ap (op.Cast o) (sym (and_true n)))
 lessened_itself (op.Icmp pred) = refl
 lessened_itself op.Select = refl
@@ -378,3 +381,85 @@ module _ (ret : Ty) (n : ℕ) (count : is_count n ≡ true) where
   pub form_of : (o : Op) (w : ℕ) (os : List Opd) (tys : List (Option Ty)) (is : List Inst) → MayBe o → is_scalar (Int w) ≡ true → is_too_wide n (Some (Int w)) ≡ false → Narrow tys → length tys ≡ length os →
       IsTyped ret o (Int w) tys → Form ret o (common_op o is) (Int w) (slots_of o os) tys n
   form_of o w os tys is may scalar narrow thin long typed = form_int o (common_op o is) w os tys may (lessened_common o may is) scalar narrow thin long typed
+
+  -- what may be widened calls nothing, goes nowhere and takes no room
+  abbrev Simple : Op → Type 0
+  Simple o = ((m : Rattle.ir_types.specs.declared.module.Module.Module) (t : Ty) (tys : List (Option Ty)) → Rattle.ir_types.specs.Formed.IsCalling m o t tys) × (Rattle.ir_types.specs.Available.op_targets o ≡ []) × (Rattle.ir_types.specs.Formed.is_alloca o ≡ false)
+
+  wide_simple : (o wide : Op) → MayBe o → Lessened o wide → Simple wide
+  wide_simple (op.Bin o f) wide may less = subst Simple (sym less.1) ((λ m t tys. tt), refl, refl)
+  wide_simple (op.Cast o k) wide may less = subst Simple (sym less.1) ((λ m t tys. tt), refl, refl)
+  wide_simple (op.Icmp pred) wide may less = subst Simple (sym less) ((λ m t tys. tt), refl, refl)
+  wide_simple op.Select wide may less = subst Simple (sym less) ((λ m t tys. tt), refl, refl)
+  wide_simple (op.Load align) wide may less = subst Simple (sym less) ((λ m t tys. tt), refl, refl)
+  wide_simple (op.Store align) wide may less = subst Simple (sym less) ((λ m t tys. tt), refl, refl)
+  wide_simple op.Extract wide may less = never op.Extract refl refl may
+  wide_simple op.Insert wide may less = never op.Insert refl refl may
+  wide_simple (op.Shuffle mask) wide may less = never (op.Shuffle mask) refl refl may
+  wide_simple (op.Gep elem inbounds) wide may less = never (op.Gep elem inbounds) refl refl may
+  wide_simple (op.Alloca elem align) wide may less = never (op.Alloca elem align) refl refl may
+  wide_simple (op.Phi blocks) wide may less = never (op.Phi blocks) refl refl may
+  wide_simple op.Ret wide may less = never op.Ret refl refl may
+  wide_simple (op.Br to) wide may less = never (op.Br to) refl refl may
+  wide_simple (op.CondBr first second) wide may less = never (op.CondBr first second) refl refl may
+  wide_simple (op.Switch other cases to) wide may less = never (op.Switch other cases to) refl refl may
+  wide_simple op.Unreachable wide may less = never op.Unreachable refl refl may
+  wide_simple (op.Call site) wide may less = never (op.Call site) refl refl may
+
+  pub common_simple : (o : Op) → MayBe o → (is : List Inst) → Simple (common_op o is)
+  common_simple o may is = wide_simple o (common_op o is) may (lessened_common o may is)
+
+no_rest : (g : Opd → Option Ty) (os : List Opd) (ws : List ℕ) (rest : List (Option Ty)) → map g os ≡ scalar_tys ws ++ rest → length ws ≡ length os → [] ≡ rest
+no_rest g [] [] rest e count = e
+no_rest g [] (w ∷ ws) rest e count = absurd cc
+no_rest g (o ∷ os) [] rest e count = absurd (omega (arith, count))
+no_rest g (o ∷ os) (w ∷ ws) rest e count = no_rest g os ws rest (tail_is e) (omega (arith, count))
+  where
+    tail_is : {a b : Option Ty} {xs ys : List (Option Ty)} → a ∷ xs ≡ b ∷ ys → xs ≡ ys
+    tail_is r = cc
+
+-- the operands after the slots
+pub pointer_rest : (g : Opd → Option Ty) (o : Op) (os : List Opd) (ws : List ℕ) (rest : List (Option Ty)) → map g os ≡ scalar_tys ws ++ rest → length ws ≡ slots_of o os → map g (pointer_of o os) ≡ rest
+pointer_rest g (op.Load align) os [] rest e count = e
+pointer_rest g (op.Load align) os (w ∷ ws) rest e count = absurd (omega (arith, count))
+pointer_rest g (op.Store align) [] [] rest e count = absurd (omega (arith, count))
+pointer_rest g (op.Store align) [] (w ∷ ws) rest e count = absurd cc
+pointer_rest g (op.Store align) (v ∷ p) [] rest e count = absurd (omega (arith, count))
+pointer_rest g (op.Store align) (v ∷ p) (w ∷ []) rest e count = tail_is e
+  where
+    tail_is : {a b : Option Ty} {xs ys : List (Option Ty)} → a ∷ xs ≡ b ∷ ys → xs ≡ ys
+    tail_is r = cc
+pointer_rest g (op.Store align) (v ∷ p) (w ∷ x ∷ ws) rest e count = absurd (omega (arith, count))
+pointer_rest g (op.Bin o f) os ws rest e count = no_rest g os ws rest e count
+pointer_rest g (op.Icmp pred) os ws rest e count = no_rest g os ws rest e count
+pointer_rest g (op.Cast o k) os ws rest e count = no_rest g os ws rest e count
+pointer_rest g op.Select os ws rest e count = no_rest g os ws rest e count
+pointer_rest g op.Extract os ws rest e count = no_rest g os ws rest e count
+pointer_rest g op.Insert os ws rest e count = no_rest g os ws rest e count
+pointer_rest g (op.Shuffle mask) os ws rest e count = no_rest g os ws rest e count
+pointer_rest g (op.Gep elem inbounds) os ws rest e count = no_rest g os ws rest e count
+pointer_rest g (op.Alloca elem align) os ws rest e count = no_rest g os ws rest e count
+pointer_rest g (op.Phi blocks) os ws rest e count = no_rest g os ws rest e count
+pointer_rest g op.Ret os ws rest e count = no_rest g os ws rest e count
+pointer_rest g (op.Br to) os ws rest e count = no_rest g os ws rest e count
+pointer_rest g (op.CondBr first second) os ws rest e count = no_rest g os ws rest e count
+pointer_rest g (op.Switch other cases to) os ws rest e count = no_rest g os ws rest e count
+pointer_rest g op.Unreachable os ws rest e count = no_rest g os ws rest e count
+pointer_rest g (op.Call site) os ws rest e count = no_rest g os ws rest e count
+
+-- an operand at a slot of a width
+pub scalar_at : (g : Opd → Option Ty) (os : List Opd) (ws : List ℕ) (rest : List (Option Ty)) (a w : ℕ) → map g os ≡ scalar_tys ws ++ rest → Rattle.std.specs.Prelude.slice_get ws a ≡ Some w →
+    (o : Opd) × (Rattle.std.specs.Prelude.slice_get os a ≡ Some o) × (g o ≡ Some (Int w))
+scalar_at g os [] rest a w e at = absurd cc
+scalar_at g [] (v ∷ ws) rest a w e at = absurd cc
+scalar_at g (o ∷ os) (v ∷ ws) rest zero w e at = (o, refl, head_is e ∙ ap (λ x. Some (Int x)) (some_is at))
+  where
+    head_is : {a b : Option Ty} {xs ys : List (Option Ty)} → a ∷ xs ≡ b ∷ ys → a ≡ b
+    head_is r = cc
+
+    some_is : {p q : ℕ} → Some p ≡ Some q → p ≡ q
+    some_is r = cc
+scalar_at g (o ∷ os) (v ∷ ws) rest (suc a) w e at = scalar_at g os ws rest a w (tail_is e) at
+  where
+    tail_is : {x y : Option Ty} {xs ys : List (Option Ty)} → x ∷ xs ≡ y ∷ ys → xs ≡ ys
+    tail_is r = cc

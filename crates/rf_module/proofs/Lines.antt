@@ -1,5 +1,5 @@
 -- A row of instructions of which each has operands that are known by then, with their types.
-use Rattle.std.proofs.Common.{◌≡◌, refl, sym, ap, ◌∙◌, subst, ℕ, zero, suc, ◌+◌, ◌≤◌, Bool, true, false, Option, None, Some, List, [], ◌∷◌, ◌++◌, map, cond, nat_lt, if◌then◌else◌, arith, length}
+use Rattle.std.proofs.Common.{◌≡◌, refl, sym, ap, ◌∙◌, subst, ℕ, ◌+◌, ◌≤◌, Bool, true, false, Option, None, Some, List, [], ◌∷◌, ◌++◌, map, cond, nat_lt, if◌then◌else◌, arith, length}
 use Rattle.std.specs.Bool.{⊤}
 use Rattle.std.specs.List.{All}
 use Rattle.ir_types.specs.declared.id.Id.{Id}
@@ -13,9 +13,8 @@ use Rattle.ir_types.specs.declared.module.Module.{Module}
 use Rattle.ir_types.specs.Available.{same_id, op_targets}
 use Rattle.ir_types.specs.Typed.{IsTyped}
 use Rattle.ir_types.specs.Formed.{given_ty, is_phi, is_alloca, IsOpd, IsTarget, IsCalling, IsPlainInst}
-use Rattle.ir_types.proofs.Among.{same_is}
 use Rattle.vx_view.specs.Answers.{find}
-use Rattle.rf_rewrite.proofs.Contexts.{one_of, times}
+use Rattle.rf_rewrite.proofs.Contexts.{times}
 
 -- ---- what is known
 

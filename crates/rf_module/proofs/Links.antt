@@ -1,6 +1,6 @@
 -- The nodes of a region's tree: each is had as the rules tell of it with the nodes before it, and the slots of a widened one lead to nodes that
 -- have the lanes of the slots.
-use Rattle.std.proofs.Common.{◌≡◌, refl, sym, ap, ◌∙◌, subst, ℕ, zero, suc, ◌+◌, ◌<◌, ◌≤◌, ◌⊎◌, inl, inr, Bool, true, false, not, ◌&&◌, ◌||◌, Option, None, Some, List, [], ◌∷◌, ◌++◌, map, cond, slice_get, take, option_map, arith, length, append_assoc}
+use Rattle.std.proofs.Common.{◌≡◌, refl, sym, ap, ◌∙◌, subst, ℕ, zero, suc, ◌+◌, ◌≤◌, Bool, false, not, ◌&&◌, ◌||◌, Option, None, Some, List, [], ◌∷◌, ◌++◌, cond, slice_get, take, option_map, arith, length, append_assoc}
 use Rattle.std.specs.Bool.{⊤}
 use Rattle.std.specs.Prelude.{is_none}
 use Rattle.std.specs.List.{list_any, list_all}
@@ -17,15 +17,19 @@ use Rattle.vx_serial.specs.declared.node.How.{How}
 use Rattle.vx_serial.specs.declared.node.How.TheVariants.{Widen, Reuse, Ident, Pack}
 use Rattle.vx_serial.specs.declared.node.Node.{Node}
 use Rattle.vx_serial.specs.Window.{order, joined}
-use Rattle.vx_serial.specs.Bundles.{AreOnce, ids_of}
+use Rattle.vx_serial.specs.Bundles.{ids_of}
 use Rattle.vx_serial.specs.Legal.{same_value, same_lanes, is_widened, reused, inst_of, insts_of, with_lane, is_literal, is_there, is_taken, bundles_of, early_causes, has_cycle, causes, first_cause, is_root, identity, packed, or_else, legal}
-use Rattle.vx_serial.specs.Tree.{slot_count, slots_from, Visit, visit_all, with_slots, node, put_slots, visited, visit, values_of, tree_in}
-use Rattle.vx_serial.specs.Rewriting.{is_id_in}
+use Rattle.rf_module.specs.Trees.{Lead, slots_in, Complete, AllComplete, IsComplete, TreesAreComplete}
+use Rattle.vx_serial.specs.Tree.{slot_count, Visit, visit_all, with_slots, node, visited, visit, values_of, last_in, tree_in, tree_of}
 use Rattle.vx_serial.proofs.Decided.{true_false}
-use Rattle.rf_rewrite.proofs.Contexts.{times}
+use Rattle.ir_types.specs.Formed.{IsFormed}
+use Rattle.vx_view.specs.Answers.{found}
+use Rattle.vx_view.specs.Addresses.{block_of}
+use Rattle.rf_rewrite.proofs.Contexts.{Context, plug, times, ids_plug, found_plug}
+use Rattle.rf_rewrite.proofs.Blocks.{here_of, times_few, operands_known}
 use Rattle.rf_rewrite.proofs.Window.{Known, find_times}
 use Rattle.rf_rewrite.proofs.Going.{no_more}
-use Rattle.rf_rewrite.proofs.Trees.{TreeOk, LaneOk, LanesOk, NodeOk, IsLane, lanes_are, any_append, joined_append, bundles_append, causes_none, false_of_not, lanes_ok, legal_ok, all_ok, visited_ok, visit_ok, slots_bundles, lanes_insts, slots_known, lane_inst, empty_ok, slots_ok}
+use Rattle.rf_rewrite.proofs.Trees.{TreeOk, LaneOk, NodeOk, lanes_are, joined_append, bundles_append, legal_ok, visit_ok, slots_bundles, lanes_insts, slots_known, lane_inst, empty_ok}
 use Rattle.rf_rewrite.proofs.Facts.{append_none}
 
 -- ---- nodes that are the same but for their slots
@@ -130,25 +134,6 @@ legal_same m block last xs ys lanes s =
 -- ---- nodes that are complete
 
 module _ (m : Module) (block : List Inst) (last : Id) where
-  -- the nodes of these numbers have these lanes
-  abbrev pub Lead : List Node → List (List Opd) → List ℕ → Type 0
-  Lead tree [] [] = ⊤
-  Lead tree (lanes ∷ more) (q ∷ qs) = ((n : Node) × (slice_get tree q ≡ Some n) × (n.lanes ≡ lanes)) × Lead tree more qs
-  Lead tree _ _ = ⊥
-
-  abbrev pub slots_in : List Opd → List (List Opd)
-  slots_in lanes = slots_from 0 (slot_count (insts_of block lanes)) (insts_of block lanes)
-
-  -- a node of a number: how its lanes are had is told by the nodes before it, and where it is widened its slots lead to nodes
-  pub record Complete (tree : List Node) (q : ℕ) (n : Node) : Type 0 where
-    pub told : legal m block last (take q tree) n.lanes ≡ n.how
-    pub leads : is_widened n.how ≡ true → Lead tree (slots_in n.lanes) n.slots
-
-  -- the nodes from a number on
-  abbrev pub AllComplete : List Node → ℕ → List Node → Type 0
-  AllComplete tree q [] = ⊤
-  AllComplete tree q (n ∷ ns) = Complete tree q n × AllComplete tree (suc q) ns
-
   lead_same : (xs ys : List Node) (slots : List (List Opd)) (qs : List ℕ) → Same xs ys → Lead xs slots qs → Lead ys slots qs
   lead_same xs ys [] [] s h = tt
   lead_same xs ys (l ∷ ls) (q ∷ qs) s h =
@@ -157,13 +142,13 @@ module _ (m : Module) (block : List Inst) (last : Id) where
   lead_same xs ys [] (q ∷ qs) s h = elim h [ ]
   lead_same xs ys (l ∷ ls) [] s h = elim h [ ]
 
-  complete_same : (xs ys : List Node) (q : ℕ) (n : Node) → Same xs ys → Complete xs q n → Complete ys q n
+  complete_same : (xs ys : List Node) (q : ℕ) (n : Node) → Same xs ys → Complete m block last xs q n → Complete m block last ys q n
   complete_same xs ys q n s h = record {
     told = sym (legal_same m block last (take q xs) (take q ys) n.lanes (same_take q xs ys s)) ∙ h.told;
-    leads = λ w. lead_same xs ys (slots_in n.lanes) n.slots s (h.leads w);
+    leads = λ w. lead_same xs ys (slots_in block n.lanes) n.slots s (h.leads w);
   }
 
-  all_same : (xs ys : List Node) (q : ℕ) (ns : List Node) → Same xs ys → AllComplete xs q ns → AllComplete ys q ns
+  all_same : (xs ys : List Node) (q : ℕ) (ns : List Node) → Same xs ys → AllComplete m block last xs q ns → AllComplete m block last ys q ns
   all_same xs ys q [] s h = tt
   all_same xs ys q (n ∷ ns) s h = (complete_same xs ys q n s h.0, all_same xs ys (suc q) ns s h.1)
 
@@ -183,19 +168,19 @@ module _ (m : Module) (block : List Inst) (last : Id) where
   take_append [] ys (suc q) le = absurd (omega (arith, le))
   take_append (x ∷ xs) ys (suc q) le = ap (λ u. x ∷ u) (take_append xs ys q (omega (arith, le)))
 
-  complete_append : (xs ys : List Node) (q : ℕ) (n : Node) → q ≤ length xs → Complete xs q n → Complete (xs ++ ys) q n
+  complete_append : (xs ys : List Node) (q : ℕ) (n : Node) → q ≤ length xs → Complete m block last xs q n → Complete m block last (xs ++ ys) q n
   complete_append xs ys q n le h = record {
     told = ap (λ t. legal m block last t n.lanes) (take_append xs ys q le) ∙ h.told;
-    leads = λ w. lead_append xs ys (slots_in n.lanes) n.slots (h.leads w);
+    leads = λ w. lead_append xs ys (slots_in block n.lanes) n.slots (h.leads w);
   }
 
-  all_append : (xs ys : List Node) (q : ℕ) (ns : List Node) → q + length ns ≤ length xs → AllComplete xs q ns → AllComplete (xs ++ ys) q ns
+  all_append : (xs ys : List Node) (q : ℕ) (ns : List Node) → q + length ns ≤ length xs → AllComplete m block last xs q ns → AllComplete m block last (xs ++ ys) q ns
   all_append xs ys q [] le h = tt
   all_append xs ys q (n ∷ ns) le h = (complete_append xs ys q n (omega (arith, le)) h.0, all_append xs ys (suc q) ns (omega (arith, le)) h.1)
 
-  all_both : (tree : List Node) (q : ℕ) (ns ks : List Node) → AllComplete tree q ns → AllComplete tree (q + length ns) ks → AllComplete tree q (ns ++ ks)
-  all_both tree q [] ks h k = subst (λ j. AllComplete tree j ks) (omega (arith)) k
-  all_both tree q (n ∷ ns) ks h k = (h.0, all_both tree (suc q) ns ks h.1 (subst (λ j. AllComplete tree j ks) (next q (length ns)) k))
+  all_both : (tree : List Node) (q : ℕ) (ns ks : List Node) → AllComplete m block last tree q ns → AllComplete m block last tree (q + length ns) ks → AllComplete m block last tree q (ns ++ ks)
+  all_both tree q [] ks h k = subst (λ j. AllComplete m block last tree j ks) (omega (arith)) k
+  all_both tree q (n ∷ ns) ks h k = (h.0, all_both tree (suc q) ns ks h.1 (subst (λ j. AllComplete m block last tree j ks) (next q (length ns)) k))
     where
       next : (a b : ℕ) → a + suc b ≡ suc a + b
       next a b = omega (arith)
@@ -208,13 +193,13 @@ module _ (m : Module) (block : List Inst) (last : Id) where
     pub rest : List Node
     pub are : now ≡ tree ++ first ∷ rest
     pub has : first.lanes ≡ lanes
-    pub complete : AllComplete now (length tree) (first ∷ rest)
+    pub complete : AllComplete m block last now (length tree) (first ∷ rest)
 
   -- visits of slots one after another
   pub record AllGrown (tree now : List Node) (slots : List (List Opd)) (before numbers : List ℕ) : Type 0 where
     pub more : List Node
     pub are : now ≡ tree ++ more
-    pub complete : AllComplete now (length tree) more
+    pub complete : AllComplete m block last now (length tree) more
     pub new : List ℕ
     pub numbers_are : numbers ≡ before ++ new
     pub leads : Lead now slots new
@@ -283,9 +268,9 @@ module _ (m : Module) (block : List Inst) (last : Id) where
             more = (g.first ∷ g.rest) ++ r.more;
             are = whole;
             complete = all_both end (length tree) (g.first ∷ g.rest) r.more
-                (subst (λ t. AllComplete t (length tree) (g.first ∷ g.rest)) (sym r.are)
+                (subst (λ t. AllComplete m block last t (length tree) (g.first ∷ g.rest)) (sym r.are)
                 (all_append (f tree lanes) r.more (length tree) (g.first ∷ g.rest) (let long = ap length g.are in let sum = length_append tree (g.first ∷ g.rest) in omega (arith, long, sum)) g.complete))
-                (subst (λ j. AllComplete end j r.more) (ap length g.are ∙ length_append tree (g.first ∷ g.rest)) r.complete);
+                (subst (λ j. AllComplete m block last end j r.more) (ap length g.are ∙ length_append tree (g.first ∷ g.rest)) r.complete);
             new = length tree ∷ r.new;
             numbers_are = r.numbers_are ∙ numbers_append numbers (length tree) r.new;
             leads = ((g.first, ap (λ t. slice_get t (length tree)) whole ∙ get_there tree (g.rest ++ r.more) g.first, g.has), r.leads);
@@ -356,24 +341,24 @@ module _ (m : Module) (block : List Inst) (last : Id) where
 
     module _ (f : Visit) (n : ℕ) (grows : Grows f n) (keeps : (tree : List Node) (lanes : List Opd) → Ok tree → Every (Known globals base) lanes → Ok (f tree lanes)) where
       visited_grows : (tree : List Node) (lanes : List Opd) (how : How) → legal m block last tree lanes ≡ how → Ok (tree ++ node lanes how ∷ []) → suc (length block) ≤ suc n + tally tree →
-          Grown tree (visited f (slots_in lanes) tree lanes how) lanes × (tally tree ≤ tally (visited f (slots_in lanes) tree lanes how))
+          Grown tree (visited f (slots_in block lanes) tree lanes how) lanes × (tally tree ≤ tally (visited f (slots_in block lanes) tree lanes how))
       visited_grows tree lanes (Reuse k) e ok deep = (one_node tree lanes (Reuse k) e refl, tally_append tree (node lanes (Reuse k) ∷ []))
       visited_grows tree lanes (Ident v) e ok deep = (one_node tree lanes (Ident v) e refl, tally_append tree (node lanes (Ident v) ∷ []))
       visited_grows tree lanes (Pack c) e ok deep = (one_node tree lanes (Pack c) e refl, tally_append tree (node lanes (Pack c) ∷ []))
       visited_grows tree lanes Widen e ok deep =
           let more = widened_tally tree lanes ok e in
-          then (visits_grow f n grows keeps (slots_in lanes) begun [] (slots_known globals base m block last based operands 0 (slot_count (insts_of block lanes)) (insts_of block lanes) (lanes_insts globals base m block last based operands lanes)) ok (omega (arith, deep, more)))
+          then (visits_grow f n grows keeps (slots_in block lanes) begun [] (slots_known globals base m block last based operands 0 (slot_count (insts_of block lanes)) (insts_of block lanes) (lanes_insts globals base m block last based operands lanes)) ok (omega (arith, deep, more)))
         where
           begun : List Node
           begun = tree ++ node lanes Widen ∷ []
 
           end : List Node
-          end = (visit_all f (slots_in lanes) begun []).0
+          end = (visit_all f (slots_in block lanes) begun []).0
 
           numbers : List ℕ
-          numbers = (visit_all f (slots_in lanes) begun []).1
+          numbers = (visit_all f (slots_in block lanes) begun []).1
 
-          then : AllGrown begun end (slots_in lanes) [] numbers → Grown tree (with_slots (length tree) numbers end) lanes × (tally tree ≤ tally (with_slots (length tree) numbers end))
+          then : AllGrown begun end (slots_in block lanes) [] numbers → Grown tree (with_slots (length tree) numbers end) lanes × (tally tree ≤ tally (with_slots (length tree) numbers end))
           then g = (
             record {
               first = filled;
@@ -383,17 +368,17 @@ module _ (m : Module) (block : List Inst) (last : Id) where
               complete = (
                 record {
                   told = ap (λ t. legal m block last (take (length tree) t) lanes) is ∙ ap (λ t. legal m block last t lanes) (take_whole tree (filled ∷ g.more)) ∙ e;
-                  leads = λ w. lead_same end (with_slots (length tree) numbers end) (slots_in lanes) numbers (same_slots (length tree) numbers end) (subst (Lead end (slots_in lanes)) (sym g.numbers_are) g.leads);
+                  leads = λ w. lead_same end (with_slots (length tree) numbers end) (slots_in block lanes) numbers (same_slots (length tree) numbers end) (subst (Lead end (slots_in block lanes)) (sym g.numbers_are) g.leads);
                 },
-                subst (λ j. AllComplete (with_slots (length tree) numbers end) j g.more) (length_append tree (node lanes Widen ∷ []) ∙ one_more (length tree))
+                subst (λ j. AllComplete m block last (with_slots (length tree) numbers end) j g.more) (length_append tree (node lanes Widen ∷ []) ∙ one_more (length tree))
                     (all_same end (with_slots (length tree) numbers end) (length begun) g.more (same_slots (length tree) numbers end) g.complete),
               );
             },
             (let same : tally (with_slots (length tree) numbers end) ≡ tally end = ap (λ bs. length (joined bs)) (slots_bundles globals base m block last based operands (length tree) numbers end) in
-            let grown = ap tally g.are in
-            let one = tally_append begun g.more in
-            let two = tally_append tree (node lanes Widen ∷ []) in
-            omega (arith, same, grown, one, two)),
+                let grown = ap tally g.are in
+                let one = tally_append begun g.more in
+                let two = tally_append tree (node lanes Widen ∷ []) in
+                omega (arith, same, grown, one, two)),
           )
             where
               filled : Node
@@ -415,3 +400,35 @@ module _ (m : Module) (block : List Inst) (last : Id) where
 
     pub tree_complete : (stores : List Id) → Every (Known globals base) (values_of stores) → Grown [] (tree_in m block last stores) (values_of stores)
     tree_complete stores k = (visit_grows (suc (length block)) [] (values_of stores) (empty_ok globals base m block last based operands) k (omega (arith))).0
+
+-- ---- the law
+
+pub trees_complete : TreesAreComplete
+trees_complete m s stores formed lawful =
+    let h = here_of m s stores formed lawful in
+    subst
+    (λ n. IsFormed n → IsComplete n (block_of (found n s)) (last_in (s ∷ stores) s (block_of (found n s))) (s ∷ stores) (tree_of n (s ∷ stores)))
+    h.whole (λ f. in_context h.context h.insts f h.store h.finds h.each) formed
+  where
+    in_context : (c : Context) (block : List Inst) → IsFormed (plug c block) → (store : Inst) → find s block ≡ Some store → Every (λ y. 1 ≤ times y block) (s ∷ stores) →
+        IsComplete (plug c block) (block_of (found (plug c block) s)) (last_in (s ∷ stores) s (block_of (found (plug c block) s))) (s ∷ stores) (tree_of (plug c block) (s ∷ stores))
+    in_context c block f store finds each =
+        let le = times_few c block f s in
+        let some = find_times s block store finds in
+        subst (λ b. IsComplete (plug c block) b (last_in (s ∷ stores) s b) (s ∷ stores) (tree_in (plug c block) b (last_in (s ∷ stores) s b) (s ∷ stores)))
+        (sym (ap block_of (found_plug c block s store finds (omega (arith, le, some)))))
+        (complete_of (tree_complete (plug c block) block (last_in (s ∷ stores) s block) (length c.globals) (λ y. id_times y (module_ids (plug c block))) (λ y. refl) (operands_known c block f) (s ∷ stores) (known (s ∷ stores) each)))
+      where
+        known : (xs : List Id) → Every (λ y. 1 ≤ times y block) xs → Every (Known (length c.globals) (λ y. id_times y (module_ids (plug c block)))) (values_of xs)
+        known [] h = tt
+        known (y ∷ xs) h = ((let ids = ids_plug c block y in let some = h.0 in omega (arith, ids, some)), known xs h.1)
+
+        complete_of : Grown (plug c block) block (last_in (s ∷ stores) s block) [] (tree_in (plug c block) block (last_in (s ∷ stores) s block) (s ∷ stores)) (values_of (s ∷ stores)) →
+            IsComplete (plug c block) block (last_in (s ∷ stores) s block) (s ∷ stores) (tree_in (plug c block) block (last_in (s ∷ stores) s block) (s ∷ stores))
+        complete_of g = record {
+          root = g.first;
+          rest = g.rest;
+          are = g.are;
+          lanes = g.has;
+          nodes = subst (λ ns. AllComplete (plug c block) block (last_in (s ∷ stores) s block) (tree_in (plug c block) block (last_in (s ∷ stores) s block) (s ∷ stores)) 0 ns) (sym g.are) g.complete;
+        }

@@ -1,5 +1,5 @@
 -- What the rules tell of the lanes of a node: which instructions they are, and that they are alike.
-use Rattle.std.proofs.Common.{◌≡◌, refl, sym, ap, ◌∙◌, subst, ℕ, zero, suc, ◌+◌, ◌*◌, ◌<◌, ◌≤◌, ◌⊎◌, inl, inr, Bool, true, false, not, ◌&&◌, ◌||◌, Option, None, Some, List, [], ◌∷◌, ◌++◌, map, cond, nat_eq, nat_lt, slice_get, option_map, arith, length}
+use Rattle.std.proofs.Common.{◌≡◌, refl, sym, ap, ◌∙◌, subst, ℕ, suc, ◌+◌, Bool, true, false, ◌&&◌, Option, None, Some, List, [], ◌∷◌, map, cond, nat_eq, slice_get, option_map, arith, length}
 use Rattle.std.specs.Bool.{⊤}
 use Rattle.std.specs.List.{list_any, list_all}
 use Rattle.std.proofs.lemmas.Bool.Decides.{nat_tests}
@@ -10,17 +10,15 @@ use Rattle.ir_types.specs.declared.opd.Opd.{Opd}
 use Rattle.ir_types.specs.declared.opd.Opd.TheVariants.{Val, Lit, Sym}
 use Rattle.ir_types.specs.declared.inst.Inst.{Inst}
 use Rattle.ir_types.specs.declared.module.Module.{Module}
-use Rattle.ir_types.specs.Available.{same_id}
 use Rattle.ir_types.specs.Typed.{same_ty}
 use Rattle.ir_types.proofs.Formed.{Every}
 use Rattle.ir_types.proofs.Among.{same_is}
-use Rattle.vx_view.specs.Answers.{find}
 use Rattle.vx_serial.specs.declared.cause.Cause.{Cause}
 use Rattle.vx_serial.specs.declared.node.How.{How}
 use Rattle.vx_serial.specs.declared.node.How.TheVariants.{Widen, Reuse, Ident, Pack}
 use Rattle.vx_serial.specs.declared.node.Node.{Node}
 use Rattle.vx_serial.specs.Legal.{same_value, same_lanes, is_widened, reused, inst_of, insts_of, with_lane, same_tys, same_op, is_like, are_like, is_wide, may_widen, is_root, is_there, ty_of, of_lanes, element_of, vector_of, whole_vector, are_elements, identity, causes, first_cause, packed, or_else, legal}
-use Rattle.vx_serial.proofs.Decided.{true_false, and_left, and_right}
+use Rattle.vx_serial.proofs.Decided.{and_left, and_right}
 use Rattle.rf_rewrite.proofs.Trees.{causes_none, false_of_not}
 
 some_is : {A : Type 0} {p q : A} → Some p ≡ Some q → p ≡ q

@@ -1,22 +1,18 @@
 -- The vectors of the slots of a bundle: each is known with its type where the vector instruction stands.
-use Rattle.std.proofs.Common.{◌≡◌, refl, sym, ap, ◌∙◌, subst, ℕ, zero, suc, ◌+◌, ◌*◌, ◌<◌, ◌≤◌, Bool, true, false, ◌&&◌, ◌||◌, Option, None, Some, List, [], ◌∷◌, ◌++◌, map, cond, slice_get, arith, length, append_assoc}
+use Rattle.std.proofs.Common.{◌≡◌, refl, sym, ap, ◌∙◌, subst, ℕ, suc, ◌≤◌, true, Option, None, Some, List, [], ◌∷◌, ◌++◌, map, slice_get, arith, length, append_assoc}
 use Rattle.std.specs.Bool.{⊤}
-use Rattle.std.specs.List.{All, list_any}
 use Rattle.ir_types.specs.declared.id.Id.{Id}
 use Rattle.ir_types.specs.declared.ty.Ty.{Ty}
-use Rattle.ir_types.specs.declared.ty.Ty.TheVariants.{Int, Ptr, Row}
-use Rattle.ir_types.specs.declared.literal.Literal.{Literal}
+use Rattle.ir_types.specs.declared.ty.Ty.TheVariants.{Int, Row}
 use Rattle.ir_types.specs.declared.opd.Opd.{Opd}
 use Rattle.ir_types.specs.declared.opd.Opd.TheVariants.{Val, Lit, Sym}
 use Rattle.ir_types.specs.declared.inst.Inst.{Inst}
 use Rattle.ir_types.specs.declared.func.Func.{Func}
 use Rattle.ir_types.specs.declared.module.Module.{Module}
-use Rattle.ir_types.specs.Typed.{is_vector, is_scalar, is_value, lane_width, lane_count, IsLiteral}
+use Rattle.ir_types.specs.Typed.{is_vector, is_scalar, lane_width}
 use Rattle.ir_types.specs.Formed.{IsOpd, IsPoisonIfPointer}
 use Rattle.ir_types.proofs.Formed.{Every, every_of_all}
-use Rattle.ir_types.proofs.Among.{same_itself}
 use Rattle.vx_num.specs.Width.{IsLane}
-use Rattle.vx_view.specs.Answers.{is_value as holds}
 use Rattle.vx_serial.specs.declared.node.How.{How}
 use Rattle.vx_serial.specs.declared.node.How.TheVariants.{Widen, Reuse, Ident, Pack}
 use Rattle.vx_serial.specs.declared.node.Node.{Node}
@@ -24,7 +20,7 @@ use Rattle.vx_serial.specs.Rewriting.{Made, Gathering, created, gathered, gather
 use Rattle.rf_module.proofs.Lines.{Known, after, after_append, ty_by}
 use Rattle.rf_module.proofs.Exchanged.{all_of_every}
 use Rattle.rf_module.proofs.Forms.{vector_tys}
-use Rattle.rf_module.proofs.Steps.{AllNew, new_append, new_keeps, Step, step_none, step_then, Free, ReadyIf, Gathered, gathered_typed}
+use Rattle.rf_module.proofs.Steps.{AllNew, new_keeps, Step, step_none, step_then, Free, ReadyIf, Gathered, gathered_typed}
 
 append_none : {A : Type 0} (xs : List A) → xs ≡ xs ++ []
 append_none [] = refl
@@ -212,7 +208,7 @@ module _ (m : Module) (f : Func) (number region : ℕ) (new : List Inst) (n : �
           step = step_then m f number region known here.more r.more here.step r.step;
           tys =
               ap (λ t. t ∷ map (ty_by m f number (after (here.more ++ r.more) known)) (slots_in m region tree ps now).0)
-                  (ty_append (slot_by m region p h.0.0.lanes h.0.0.how s).vector ∙ ty_kept (after here.more known) r.more r.step.fresh (slot_by m region p h.0.0.lanes h.0.0.how s).vector (Row n w) here.vector)
+              (ty_append (slot_by m region p h.0.0.lanes h.0.0.how s).vector ∙ ty_kept (after here.more known) r.more r.step.fresh (slot_by m region p h.0.0.lanes h.0.0.how s).vector (Row n w) here.vector)
               ∙ ap (λ ts. Some (Row n w) ∷ ts) (tys_same (slots_in m region tree ps now).0 ∙ r.tys);
           operands = (here.operand, r.operands);
           poison = (here.poison, r.poison);

@@ -1,12 +1,11 @@
 -- Instructions that are written one after another: each is fine where it stands, and none gives what is known already.
-use Rattle.std.proofs.Common.{◌≡◌, refl, sym, ap, ◌∙◌, subst, ℕ, zero, suc, ◌+◌, ◌*◌, ◌^◌, ◌<◌, ◌≤◌, Bool, true, false, not, ◌&&◌, ◌||◌, Option, None, Some, List, [], ◌∷◌, ◌++◌, map, cond, nat_eq, nat_lt, if◌then◌else◌, arith, length, append_assoc}
+use Rattle.std.proofs.Common.{◌≡◌, refl, sym, ap, ◌∙◌, subst, ℕ, suc, ◌+◌, ◌<◌, ◌≤◌, Bool, true, false, ◌||◌, Option, None, Some, List, [], ◌∷◌, ◌++◌, map, cond, nat_eq, arith, length, append_assoc}
 use Rattle.std.specs.Bool.{⊤}
 use Rattle.std.specs.List.{All, list_any}
 use Rattle.std.proofs.lemmas.Bool.Decides.{nat_tests}
 use Rattle.ir_types.specs.declared.id.Id.{Id}
 use Rattle.ir_types.specs.declared.ty.Ty.{Ty}
-use Rattle.ir_types.specs.declared.ty.Ty.TheVariants.{Void, Int, Ptr, Row}
-use Rattle.ir_types.specs.declared.literal.Literal.{Literal}
+use Rattle.ir_types.specs.declared.ty.Ty.TheVariants.{Int, Row}
 use Rattle.ir_types.specs.declared.opd.Opd.{Opd}
 use Rattle.ir_types.specs.declared.opd.Opd.TheVariants.{Val, Lit, Sym}
 use Rattle.ir_types.specs.declared.op.Op.{Op}
@@ -15,16 +14,15 @@ use Rattle.ir_types.specs.declared.inst.Inst.{Inst}
 use Rattle.ir_types.specs.declared.func.Func.{Func}
 use Rattle.ir_types.specs.declared.module.Module.{Module}
 use Rattle.ir_types.specs.Available.{same_id, op_targets}
-use Rattle.ir_types.specs.Typed.{is_width, is_vector, is_scalar, is_number, is_value, lane_width, lane_count, IsLiteral, IsTyped}
-use Rattle.ir_types.specs.Formed.{given_ty, is_phi, is_alloca, IsOpd, IsTarget, IsCalling, is_plain, IsPoisonIfPointer, IsPlainInst}
+use Rattle.ir_types.specs.Typed.{is_vector, is_scalar, IsLiteral, IsTyped}
+use Rattle.ir_types.specs.Formed.{given_ty, is_alloca, IsOpd, IsTarget, IsCalling, IsPoisonIfPointer}
 use Rattle.ir_types.proofs.Formed.{Every}
 use Rattle.ir_types.proofs.Among.{same_is, same_itself}
 use Rattle.vx_num.specs.Width.{IsLane}
 use Rattle.vx_view.specs.Answers.{is_value as holds}
 use Rattle.vx_serial.specs.Rewriting.{Made, Gathering, created, made, gathered, index_of, is_created, only_created, uses_value}
 use Rattle.vx_serial.proofs.Decided.{true_false}
-use Rattle.rf_rewrite.proofs.Contexts.{one_of, times}
-use Rattle.rf_module.proofs.Lines.{Known, next, after, after_append, ty_by, LineOk, Lines, lines_append}
+use Rattle.rf_module.proofs.Lines.{Known, next, after, ty_by, LineOk, Lines, lines_append}
 use Rattle.rf_module.proofs.Exchanged.{all_of_every}
 
 -- ---- what is new

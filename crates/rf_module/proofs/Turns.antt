@@ -1,7 +1,6 @@
 -- The groups of a window come in turn: what a member of a group uses that stands in the window stands in a group before.
-use Rattle.std.proofs.Common.{◌≡◌, refl, sym, ap, ◌∙◌, subst, ℕ, zero, suc, ◌+◌, ◌<◌, ◌≤◌, ◌==◌, ◌⊎◌, inl, inr, Bool, true, false, ◌&&◌, ◌||◌, Option, None, Some, List, [], ◌∷◌, ◌++◌, map, cond, slice_get, arith, length, append_assoc}
+use Rattle.std.proofs.Common.{◌≡◌, refl, sym, ap, ◌∙◌, subst, ℕ, suc, ◌+◌, ◌<◌, ◌≤◌, ◌⊎◌, inl, inr, Bool, true, false, ◌&&◌, ◌||◌, Option, None, Some, List, [], ◌∷◌, ◌++◌, map, cond, slice_get, arith}
 use Rattle.std.specs.Bool.{⊤}
-use Rattle.std.specs.List.{list_any}
 use Rattle.ir_types.specs.declared.id.Id.{Id}
 use Rattle.ir_types.specs.declared.inst.Inst.{Inst}
 use Rattle.ir_types.specs.declared.module.Module.{Module}
@@ -11,8 +10,7 @@ use Rattle.ir_types.proofs.Formed.{Every}
 use Rattle.ir_types.proofs.Among.{same_is, same_itself}
 use Rattle.vx_order.specs.Groups.{has}
 use Rattle.vx_order.proofs.Placing.{head_or_more, at_head, in_more}
-use Rattle.vx_view.specs.Answers.{is_value}
-use Rattle.vx_view.specs.Conflicts.{depends, conflict_in}
+use Rattle.vx_view.specs.Conflicts.{conflict_in}
 use Rattle.vx_serial.specs.Window.{with_inst, insts_at, order_in}
 use Rattle.vx_serial.specs.Bundles.{AreOnce, ids_of, AreBundles}
 use Rattle.vx_serial.proofs.Decided.{or_case}

@@ -1,1 +1,2 @@
 -- What laws of rewritten modules speak of.
+pub mod Trees

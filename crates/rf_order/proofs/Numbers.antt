@@ -1,9 +1,7 @@
 -- Numbers in another order.
-use Rattle.std.proofs.Common.{◌≡◌, refl, sym, ap, ◌∙◌, subst, ℕ, suc, ◌+◌, ◌<◌, ◌≤◌, ◌==◌, ◌⊎◌, inl, inr, Bool, true, false, ◌||◌, List, [], ◌∷◌, ◌++◌, length, arith}
-use Rattle.std.proofs.lemmas.Bool.Decides.{nat_tests}
+use Rattle.std.proofs.Common.{◌≡◌, refl, sym, ap, ◌∙◌, subst, ℕ, ◌<◌, ◌==◌, ◌⊎◌, inl, inr, Bool, true, false, ◌||◌, List, [], ◌∷◌, ◌++◌}
 use Rattle.vx_order.specs.Groups.{has}
 use Rattle.vx_order.specs.Walks.{Ascends}
-use Rattle.vx_order.proofs.Placing.{head_or_more, ascends_has}
 use Rattle.rf_order.specs.Rows.{NoneBefore, Reordered}
 use Rattle.vx_serial.proofs.Numbers.{same_number, number_itself, Split, split_at, without, has_front, Distinct, differ_of, distinct_out, ascends_distinct, ascends_out, ascends_below}
 use Rattle.vx_serial.proofs.Decided.{neither, not_true, or_case, or_first, or_second, true_false}

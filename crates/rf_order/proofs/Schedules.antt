@@ -1,10 +1,8 @@
 -- What the schedule of groups gives: all places, each group after those that it has links from.
-use Rattle.std.proofs.Common.{◌≡◌, refl, sym, ap, ◌∙◌, ℕ, zero, suc, ◌+◌, ◌<◌, ◌≤◌, ◌==◌, ◌⊎◌, inl, inr, Bool, true, false, not, ◌||◌, cond, Option, None, Some, List, [], ◌∷◌, ◌++◌, length, length-append, append-nil, map, filter, find, min, nat_lt, slice_get, get_or, option_and_then, arith}
+use Rattle.std.proofs.Common.{◌≡◌, refl, sym, ap, ◌∙◌, ℕ, suc, ◌<◌, ◌≤◌, ◌==◌, ◌⊎◌, inl, inr, Bool, true, false, not, ◌||◌, cond, Option, None, Some, List, [], ◌∷◌, ◌++◌, length, append-nil, map, find, nat_lt, get_or, option_and_then, arith}
 use Rattle.std.specs.List.{list_all, range_with_len}
 use Rattle.std.proofs.lemmas.Bool.Decides.{nat_tests}
-use Rattle.std.proofs.lemmas.List.Folds.{find_at}
-use Rattle.std.proofs.lemmas.List.Sums.{sum_by-cons}
-use Rattle.vx_order.specs.Groups.{has, owner_of, position_of, least_of, least, least_from, size, positions, links_of}
+use Rattle.vx_order.specs.Groups.{has, owner_of, position_of, least, size, positions, links_of}
 use Rattle.vx_order.specs.Order.{is_ready, next, place}
 use Rattle.vx_order.specs.Walks.{Ascends}
 use Rattle.vx_order.proofs.Placing.{both, head_or_more, at_head, in_more}

@@ -1,18 +1,12 @@
 -- The window of bundles in its order: its places, its groups and its edges, and the instructions that stand there.
-use Rattle.std.proofs.Common.{◌≡◌, refl, sym, ap, ◌∙◌, subst, ℕ, zero, suc, ◌+◌, ◌<◌, ◌≤◌, ◌==◌, ◌⊎◌, inl, inr, Bool, true, false, ◌||◌, cond, Option, None, Some, List, [], ◌∷◌, ◌++◌, length, length-append, map, nat_lt, slice_get, get_or, option_map, arith}
-use Rattle.std.specs.List.{list_any}
-use Rattle.std.proofs.lemmas.Bool.Decides.{nat_tests}
+use Rattle.std.proofs.Common.{◌≡◌, refl, sym, ap, ◌∙◌, subst, ℕ, zero, suc, ◌+◌, ◌<◌, inl, inr, Bool, true, false, cond, Option, None, Some, List, [], ◌∷◌, ◌++◌, length, length-append, map, slice_get, get_or, option_map, arith}
 use Rattle.ir_types.specs.declared.id.Id.{Id}
 use Rattle.ir_types.specs.declared.inst.Inst.{Inst}
 use Rattle.ir_types.specs.declared.module.Module.{Module}
-use Rattle.ir_types.specs.Available.{same_id}
-use Rattle.ir_types.proofs.Among.{same_is, same_itself, swapped}
-use Rattle.vx_order.specs.Groups.{has, owner_of, positions, links_of}
+use Rattle.vx_order.specs.Groups.{owner_of, positions, links_of}
 use Rattle.vx_order.specs.Order.{order_on}
-use Rattle.vx_order.specs.Walks.{Ascends}
-use Rattle.vx_order.proofs.Placing.{head_or_more, at_head, in_more}
 use Rattle.vx_view.specs.Conflicts.{depends}
-use Rattle.vx_serial.specs.Window.{is_member, place_of, singles, groups_in, edges_from, edges_in, with_inst, insts_at, order_in, joined}
+use Rattle.vx_serial.specs.Window.{groups_in, edges_from, edges_in, with_inst, insts_at, order_in, joined}
 use Rattle.vx_serial.specs.Bundles.{AreOnce, ids_of, AreBundles}
 use Rattle.rf_order.specs.Rows.{NoneBefore, Reordered}
 use Rattle.vx_serial.proofs.Grouped.{group_of}

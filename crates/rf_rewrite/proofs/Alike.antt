@@ -1,6 +1,5 @@
 -- What is created does not depend on which extracts are wanted.
-use Rattle.std.proofs.Common.{◌≡◌, refl, sym, ap, ◌∙◌, subst, ℕ, zero, suc, Bool, true, false, Option, None, Some, List, [], ◌∷◌, ◌++◌, map, cond, nat_eq, slice_get, length}
-use Rattle.std.specs.Bool.{⊤}
+use Rattle.std.proofs.Common.{◌≡◌, refl, sym, ap, ◌∙◌, ℕ, suc, Bool, true, false, Option, None, Some, List, [], ◌∷◌, ◌++◌, cond, slice_get, length}
 use Rattle.ir_types.specs.declared.id.Id.{Id}
 use Rattle.ir_types.specs.declared.ty.Ty.{Ty}
 use Rattle.ir_types.specs.declared.opd.Opd.{Opd}
@@ -13,8 +12,7 @@ use Rattle.ir_types.proofs.Formed.{Every}
 use Rattle.vx_serial.specs.declared.node.How.{How}
 use Rattle.vx_serial.specs.declared.node.How.TheVariants.{Widen, Reuse, Ident, Pack}
 use Rattle.vx_serial.specs.declared.node.Node.{Node}
-use Rattle.vx_serial.specs.Window.{joined}
-use Rattle.vx_serial.specs.Rewriting.{Made, Gathering, created, made, gathered, gather, row_of, first_ty, literal_of, index_of, vector_of, of_vector, slot_by, slot_of, with_slot, slots_in, common_op, pointer_of, extracts, with_insts, with_vector, widened_by, widened, bundle_of, group_by, group_in, written, is_created, only_created}
+use Rattle.vx_serial.specs.Rewriting.{Made, Gathering, created, made, gathered, row_of, first_ty, literal_of, index_of, vector_of, of_vector, slot_by, slot_of, slots_in, common_op, pointer_of, extracts, widened_by, bundle_of, group_by, group_in, written, is_created, only_created}
 
 module _ (region : ℕ) where
   pub only_append : (xs ys : List Inst) → only_created region (xs ++ ys) ≡ only_created region xs ++ only_created region ys

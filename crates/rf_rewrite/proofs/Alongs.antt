@@ -1,7 +1,5 @@
 -- What is written of a window takes each instruction that was there once at most, whatever ids stand elsewhere.
-use Rattle.std.proofs.Common.{◌≡◌, refl, sym, ap, ◌∙◌, subst, ℕ, zero, suc, ◌+◌, ◌<◌, ◌≤◌, ◌⊎◌, inl, inr, Bool, true, false, ◌&&◌, ◌||◌, Option, None, Some, List, [], ◌∷◌, ◌++◌, map, cond, nat_eq, slice_get, arith, length, append_assoc}
-use Rattle.std.specs.Bool.{⊤}
-use Rattle.std.specs.List.{list_any}
+use Rattle.std.proofs.Common.{◌≡◌, refl, sym, ap, ◌∙◌, ℕ, suc, ◌+◌, ◌≤◌, inl, inr, Bool, true, false, Option, None, Some, List, [], ◌∷◌, ◌++◌, cond, nat_eq, slice_get, arith, length}
 use Rattle.std.proofs.lemmas.Bool.Decides.{nat_tests}
 use Rattle.ir_types.specs.declared.id.Id.{Id}
 use Rattle.ir_types.specs.declared.ty.Ty.{Ty}
@@ -20,10 +18,10 @@ use Rattle.vx_serial.specs.declared.node.How.{How}
 use Rattle.vx_serial.specs.declared.node.How.TheVariants.{Widen, Reuse, Ident, Pack}
 use Rattle.vx_serial.specs.declared.node.Node.{Node}
 use Rattle.vx_serial.specs.Window.{joined}
-use Rattle.vx_serial.specs.Rewriting.{Made, Gathering, created, made, gathered, gather, row_of, first_ty, literal_of, index_of, slot_by, slot_of, slots_in, common_op, pointer_of, extracts, with_insts, with_vector, widened_by, widened, bundle_of, group_by, group_in, written, is_created, is_id_in}
+use Rattle.vx_serial.specs.Rewriting.{Made, Gathering, created, made, gathered, row_of, first_ty, literal_of, index_of, slot_by, slot_of, slots_in, common_op, pointer_of, extracts, widened, bundle_of, group_by, group_in, written, is_created, is_id_in}
 use Rattle.vx_serial.proofs.Decided.{true_false}
 use Rattle.rf_rewrite.proofs.Contexts.{Context, one_of, times, times_append}
-use Rattle.rf_rewrite.proofs.Window.{next_rest, AlongOf, Along, find_times}
+use Rattle.rf_rewrite.proofs.Window.{next_rest, AlongOf, Along}
 use Rattle.rf_rewrite.proofs.Taking.{find_removed}
 use Rattle.rf_rewrite.proofs.Making.{Kind}
 

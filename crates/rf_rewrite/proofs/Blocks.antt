@@ -1,28 +1,24 @@
 -- What a formed module tells of the block of lawful stores, and of what is around it.
-use Rattle.std.proofs.Common.{◌≡◌, refl, sym, ap, ◌∙◌, subst, ℕ, zero, suc, ◌+◌, ◌<◌, ◌≤◌, ◌⊎◌, inl, inr, Bool, true, false, not, ◌&&◌, ◌||◌, Option, None, Some, List, [], ◌∷◌, ◌++◌, map, cond, nat_eq, nat_lt, get_or, slice_get, if◌then◌else◌, arith, length, append_assoc}
-use Rattle.std.specs.Bool.{⊤}
-use Rattle.std.specs.List.{All, AllPairs, Contains, list_any}
+use Rattle.std.proofs.Common.{◌≡◌, refl, sym, ap, ◌∙◌, subst, ℕ, zero, suc, ◌+◌, ◌<◌, ◌≤◌, Bool, true, false, not, ◌&&◌, ◌||◌, None, Some, List, [], ◌∷◌, ◌++◌, map, cond, nat_lt, get_or, slice_get, if◌then◌else◌, arith, length}
+use Rattle.std.specs.List.{Contains}
 use Rattle.std.proofs.lemmas.Bool.Decides.{nat_tests}
 use Rattle.ir_types.specs.declared.id.Id.{Id}
 use Rattle.ir_types.specs.declared.ty.Ty.{Ty}
 use Rattle.ir_types.specs.declared.opd.Opd.{Opd}
 use Rattle.ir_types.specs.declared.opd.Opd.TheVariants.{Val, Lit, Sym}
 use Rattle.ir_types.specs.declared.inst.Inst.{Inst}
-use Rattle.ir_types.specs.declared.func.Param.{Param}
-use Rattle.ir_types.specs.declared.func.Block.{Block}
 use Rattle.ir_types.specs.declared.func.Func.{Func}
-use Rattle.ir_types.specs.declared.module.Item.{Item}
-use Rattle.ir_types.specs.declared.module.Item.TheVariants.{Kept, Opaque, Func as FuncItem}
+use Rattle.ir_types.specs.declared.module.Item.TheVariants.{Func as FuncItem}
 use Rattle.ir_types.specs.declared.module.Module.{Module}
 use Rattle.ir_types.specs.Walks.{IsReached}
-use Rattle.ir_types.specs.Available.{same_id, graph_of, Each}
-use Rattle.ir_types.specs.Formed.{is_phi, is_terminator, is_store, is_scalar_store, ends_from, EndsOnce, PhisFirst, opd_ty, IsFormed, IsFormedItem, IsFormedFunc, IsFormedBlock, IsFormedInst, IsFresh, IsLawful, IsStoreIn, ids_of}
+use Rattle.ir_types.specs.Available.{same_id, graph_of}
+use Rattle.ir_types.specs.Formed.{is_phi, is_terminator, ends_from, EndsOnce, PhisFirst, opd_ty, IsFormed, IsFormedItem, IsFormedFunc, IsFormedBlock, IsLawful, IsStoreIn, ids_of}
 use Rattle.ir_types.proofs.Formed.{Every, every_of_all, IsThere, opds_there}
-use Rattle.ir_types.proofs.Among.{among, same_is, same_itself, In, OpdIn, InstIn, BlockIn, FuncIn, ItemIn, module_in}
+use Rattle.ir_types.proofs.Among.{among, same_is, same_itself, OpdIn, InstIn, BlockIn, ItemIn, module_in}
 use Rattle.vx_view.specs.Answers.{find}
-use Rattle.sb_uses.specs.Totals.{id_times, IdsApart}
+use Rattle.sb_uses.specs.Totals.{id_times}
 use Rattle.sb_uses.proofs.Totals.{formed_apart}
-use Rattle.vx_serial.specs.Rewriting.{created, is_created}
+use Rattle.vx_serial.specs.Rewriting.{created}
 use Rattle.rf_rewrite.proofs.Contexts.{Context, func_with, block_with, items_with, plug, one_of, times, times_append, ids_plug, ids_sum, around}
 use Rattle.rf_rewrite.proofs.Window.{Known, find_append}
 

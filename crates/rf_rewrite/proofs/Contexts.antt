@@ -1,6 +1,5 @@
 -- A module as the instructions of one block, and all that is around them.
-use Rattle.std.proofs.Common.{◌≡◌, refl, sym, ap, ◌∙◌, subst, ℕ, zero, suc, ◌+◌, ◌≤◌, Bool, true, false, ◌||◌, Option, None, Some, List, [], ◌∷◌, ◌++◌, map, cond, arith, length, append_assoc}
-use Rattle.std.specs.Bool.{⊤}
+use Rattle.std.proofs.Common.{◌≡◌, refl, ap, ◌∙◌, ℕ, suc, ◌+◌, ◌≤◌, Bool, true, false, Option, None, Some, List, [], ◌∷◌, ◌++◌, map, cond, arith, length}
 use Rattle.ir_types.specs.declared.id.Id.{Id}
 use Rattle.ir_types.specs.declared.id.Place.{Place}
 use Rattle.ir_types.specs.declared.inst.Inst.{Inst}
@@ -10,13 +9,11 @@ use Rattle.ir_types.specs.declared.func.Func.{Func}
 use Rattle.ir_types.specs.declared.module.Item.{Item}
 use Rattle.ir_types.specs.declared.module.Item.TheVariants.{Kept, Opaque, Func as FuncItem}
 use Rattle.ir_types.specs.declared.module.Module.{Module}
-use Rattle.ir_types.specs.declared.id.Use.{Use}
-use Rattle.ir_types.specs.Available.{same_id, defines}
+use Rattle.ir_types.specs.Available.{same_id}
 use Rattle.ir_types.specs.Formed.{block_ids, item_ids, ids_of_items, ids_of}
-use Rattle.vx_view.specs.Answers.{funcs_of, param_in, param_of, find, found, Standing, standing, either, standing_in, standing_of, uses_of, uses_in, uses_in_blocks}
+use Rattle.vx_view.specs.Answers.{funcs_of, param_in, param_of, find, found, Standing, standing, either, standing_in, standing_of}
 use Rattle.vx_view.specs.Changes.{Edit, each, edited_block, edited_item, edited, IsNeither, IsEither}
 use Rattle.sb_uses.specs.Totals.{id_times}
-use Rattle.rf_rewrite.specs.Rewritten.{in_block, in_item, with_insts}
 use Rattle.rf_rewrite.proofs.Facts.{map_append}
 
 -- all of a module but the instructions of one block

@@ -1,16 +1,16 @@
 -- Lists and blocks that are parted, and what stands in their parts.
-use Rattle.std.proofs.Common.{◌≡◌, refl, sym, ap, ◌∙◌, subst, ℕ, zero, suc, ◌+◌, ◌-◌, ◌<◌, ◌≤◌, ◌⊎◌, Bool, true, false, ◌&&◌, ◌||◌, Some, List, [], ◌∷◌, ◌++◌, cond, drop, arith}
+use Rattle.std.proofs.Common.{◌≡◌, refl, sym, ap, ◌∙◌, subst, ℕ, zero, suc, ◌+◌, ◌≤◌, Bool, true, false, ◌||◌, Some, List, [], ◌∷◌, ◌++◌, cond, drop, arith}
 use Rattle.std.specs.List.{list_any}
 use Rattle.ir_types.specs.declared.id.Id.{Id}
 use Rattle.ir_types.specs.declared.inst.Inst.{Inst}
 use Rattle.ir_types.specs.Available.{same_id}
 use Rattle.ir_types.proofs.Formed.{Every}
 use Rattle.ir_types.proofs.Among.{same_is, same_itself}
-use Rattle.vx_view.specs.Answers.{find, found, after as next_after, id_of}
+use Rattle.vx_view.specs.Answers.{find, after as next_after, id_of}
 use Rattle.sb_uses.specs.Totals.{id_times}
 use Rattle.vx_serial.specs.Window.{up_to, joined}
 use Rattle.vx_serial.specs.Tree.{last_in}
-use Rattle.vx_serial.specs.Rewriting.{created, is_created, is_id_in, without, after_inst, only_created, uses_value}
+use Rattle.vx_serial.specs.Rewriting.{is_created, is_id_in, without, after_inst, only_created, uses_value}
 use Rattle.rf_rewrite.proofs.Contexts.{times, ids_sum}
 use Rattle.rf_rewrite.proofs.Gone.{uses_id}
 use Rattle.rf_rewrite.proofs.Trees.{any_append}

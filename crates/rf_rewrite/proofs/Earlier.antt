@@ -1,6 +1,5 @@
 -- What an instruction of a block uses that stands in the block stands before it, where a walk comes to the block.
-use Rattle.std.proofs.Common.{◌≡◌, refl, sym, ap, ◌∙◌, subst, ℕ, zero, suc, ◌+◌, ◌<◌, ◌≤◌, Bool, true, false, ◌&&◌, ◌||◌, Option, None, Some, List, [], ◌∷◌, ◌++◌, map, cond, nat_eq, slice_get, take, arith, length, append_assoc}
-use Rattle.std.specs.Bool.{⊤}
+use Rattle.std.proofs.Common.{◌≡◌, refl, sym, ap, ◌∙◌, subst, ℕ, zero, suc, ◌+◌, ◌≤◌, Bool, true, false, ◌||◌, Some, List, [], ◌∷◌, ◌++◌, cond, nat_eq, slice_get, take, arith, length}
 use Rattle.std.specs.List.{list_any}
 use Rattle.std.proofs.lemmas.Bool.Decides.{nat_tests}
 use Rattle.ir_types.specs.declared.id.Id.{Id}
@@ -12,15 +11,14 @@ use Rattle.ir_types.specs.declared.inst.Inst.{Inst}
 use Rattle.ir_types.specs.declared.func.Param.{Param}
 use Rattle.ir_types.specs.declared.func.Block.{Block}
 use Rattle.ir_types.specs.declared.func.Func.{Func}
-use Rattle.ir_types.specs.declared.module.Item.{Item}
 use Rattle.ir_types.specs.declared.module.Item.TheVariants.{Func as FuncItem}
-use Rattle.ir_types.specs.Walks.{IsWalk, EndsAt, EndsFrom, GoesOn, HasEdge, IsReached}
+use Rattle.ir_types.specs.Walks.{IsWalk, EndsAt, EndsFrom, GoesOn, IsReached}
 use Rattle.ir_types.specs.Available.{same_id, graph_of, is_param, defines, insts_of, insts_at, stands_from, stands_on, walk_end, before_use, IsAvailableFunc}
 use Rattle.ir_types.specs.Formed.{is_phi, block_ids, IsFormed}
 use Rattle.ir_types.proofs.Among.{same_is}
 use Rattle.vx_view.specs.Answers.{is_value}
 use Rattle.sb_uses.specs.Totals.{id_times}
-use Rattle.rf_rewrite.proofs.Contexts.{Context, block_with, items_with, plug, one_of, times, times_append, inst_ids, param_ids, ids_append, times_ids, around}
+use Rattle.rf_rewrite.proofs.Contexts.{Context, block_with, plug, times, times_append, inst_ids, param_ids, ids_append, times_ids, around}
 use Rattle.rf_rewrite.proofs.Parts.{defines_none}
 use Rattle.rf_rewrite.proofs.Gone.{uses_id}
 use Rattle.rf_rewrite.proofs.Blocks.{get_split, func_in, times_few}

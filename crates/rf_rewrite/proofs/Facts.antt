@@ -1,5 +1,5 @@
 -- Small facts of options and lists.
-use Rattle.std.proofs.Common.{◌≡◌, refl, ap, Option, None, Some, List, [], ◌∷◌, ◌++◌, map}
+use Rattle.std.proofs.Common.{◌≡◌, refl, ap, Some, List, [], ◌∷◌, ◌++◌, map}
 
 pub some_is : {A : Type 0} {p q : A} → Some p ≡ Some q → p ≡ q
 some_is e = cc

@@ -1,24 +1,20 @@
 -- Ids that go in turn, with which no other instruction goes, are what goes by looking at the block again and again.
-use Rattle.std.proofs.Common.{◌≡◌, refl, sym, ap, ◌∙◌, subst, ℕ, zero, suc, ◌+◌, ◌-◌, ◌<◌, ◌≤◌, Bool, true, false, not, ◌&&◌, ◌||◌, Option, None, Some, List, [], ◌∷◌, ◌++◌, map, cond, arith, length, append_assoc}
-use Rattle.std.specs.Bool.{⊤}
-use Rattle.std.specs.List.{list_any, list_all}
+use Rattle.std.proofs.Common.{◌≡◌, refl, sym, ap, ◌∙◌, subst, ℕ, zero, suc, ◌+◌, ◌-◌, ◌≤◌, Bool, true, false, not, ◌||◌, Some, List, [], ◌∷◌, ◌++◌, cond, arith, length, append_assoc}
 use Rattle.ir_types.specs.declared.id.Id.{Id}
-use Rattle.ir_types.specs.declared.id.Use.{Use}
 use Rattle.ir_types.specs.declared.inst.Inst.{Inst}
 use Rattle.ir_types.specs.declared.module.Module.{Module}
 use Rattle.ir_types.specs.Available.{same_id}
-use Rattle.ir_types.specs.Formed.{IsFormed, IsLawful}
+use Rattle.ir_types.specs.Formed.{IsFormed}
 use Rattle.ir_types.proofs.Among.{same_is, same_itself, swapped}
-use Rattle.vx_view.specs.Answers.{funcs_of, find, found, is_value, uses_of, uses_in}
-use Rattle.vx_view.specs.Addresses.{block_of}
+use Rattle.vx_view.specs.Answers.{funcs_of, find, uses_of, uses_in}
 use Rattle.vx_view.specs.Changes.{each, removing}
 use Rattle.vx_serial.specs.Bundles.{AreOnce}
 use Rattle.vx_serial.specs.Legal.{ids_of}
 use Rattle.vx_serial.specs.Rewriting.{is_id_in, some, uses_value, may_go, goes_with, those_gone, going}
-use Rattle.rf_rewrite.specs.Removing.{among, GoesNext, GoInTurn, is_either, NoMoreGo, AllStand, GoneAre}
+use Rattle.rf_rewrite.specs.Removing.{among, GoInTurn, is_either, NoMoreGo, AllStand, GoneAre}
 use Rattle.rf_rewrite.proofs.Contexts.{Context, plug, one_of, times, times_append, around}
-use Rattle.rf_rewrite.proofs.Parts.{NoneAround, no_uses_plug, none_around, all_append, split_found}
-use Rattle.rf_rewrite.proofs.Window.{find_append, find_times, find_id}
+use Rattle.rf_rewrite.proofs.Parts.{NoneAround, no_uses_plug, none_around, split_found}
+use Rattle.rf_rewrite.proofs.Window.{find_append, find_times}
 use Rattle.rf_rewrite.proofs.Gone.{uses_id, NoneUses, unused_in, other_times}
 use Rattle.rf_rewrite.proofs.Scan.{AllFive, all_five, users, goes_more, going_more}
 use Rattle.rf_rewrite.proofs.Left.{user_in}

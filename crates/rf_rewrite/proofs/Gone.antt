@@ -1,7 +1,7 @@
 -- The removals: while some of what goes is left, one of it is unused, and so all of it goes.
-use Rattle.std.proofs.Common.{◌≡◌, refl, sym, ap, ◌∙◌, subst, ℕ, zero, suc, ◌+◌, ◌<◌, ◌≤◌, Bool, true, false, not, ◌&&◌, ◌||◌, Option, None, Some, List, [], ◌∷◌, ◌++◌, map, cond, arith, length, append_assoc}
+use Rattle.std.proofs.Common.{◌≡◌, refl, sym, ap, ◌∙◌, subst, ℕ, zero, suc, ◌+◌, ◌≤◌, Bool, true, false, not, ◌||◌, Option, None, Some, List, [], ◌∷◌, ◌++◌, cond, arith, length}
 use Rattle.std.specs.Bool.{⊤}
-use Rattle.std.specs.List.{list_any, list_all}
+use Rattle.std.specs.List.{list_any}
 use Rattle.ir_types.specs.declared.id.Id.{Id}
 use Rattle.ir_types.specs.declared.id.Use.{Use}
 use Rattle.ir_types.specs.declared.opd.Opd.{Opd}
@@ -9,17 +9,16 @@ use Rattle.ir_types.specs.declared.inst.Inst.{Inst}
 use Rattle.ir_types.specs.declared.module.Module.{Module}
 use Rattle.ir_types.specs.Available.{same_id}
 use Rattle.ir_types.specs.Formed.{is_phi, is_alloca, is_terminator}
-use Rattle.ir_types.proofs.Among.{same_is, same_itself, swapped}
-use Rattle.vx_view.specs.declared.change.Change.{Change}
+use Rattle.ir_types.proofs.Among.{same_is, same_itself}
 use Rattle.vx_view.specs.declared.change.Change.TheVariants.{Remove}
-use Rattle.vx_view.specs.Answers.{funcs_of, find, found, Standing, is_value, slots_from, uses_of, uses_in, is_less_id}
-use Rattle.vx_view.specs.Changes.{Edit, each, edited, removing as removing_edit, applied, all_applied, Fits, AllFit}
+use Rattle.vx_view.specs.Answers.{funcs_of, find, is_value, slots_from, uses_of, uses_in, is_less_id}
+use Rattle.vx_view.specs.Changes.{each, removing as removing_edit, applied, all_applied, Fits, AllFit}
 use Rattle.vx_serial.specs.Bundles.{AreOnce}
 use Rattle.vx_serial.specs.Rewriting.{is_id_in, without, some}
 use Rattle.vx_serial.specs.Changing.{is_unused, greater, greatest_unused, other_than, removing, removals}
-use Rattle.rf_rewrite.proofs.Contexts.{Context, plug, one_of, times, ahead, past, around, place_of, some_find, found_plug, Only, each_none, edited_plug}
+use Rattle.rf_rewrite.proofs.Contexts.{Context, plug, one_of, times, around, place_of, some_find, found_plug, edited_plug}
 use Rattle.rf_rewrite.proofs.Parts.{NoneAround, no_uses_plug, empty_both}
-use Rattle.rf_rewrite.proofs.Window.{find_id, removing_only}
+use Rattle.rf_rewrite.proofs.Window.{removing_only}
 use Rattle.rf_rewrite.proofs.Facts.{some_is}
 
 -- ---- booleans

@@ -1,27 +1,24 @@
 -- The groups of a window: each is the lanes of one node in order, or one instruction that is no lane; and they take the window once.
-use Rattle.std.proofs.Common.{◌≡◌, refl, sym, ap, ◌∙◌, subst, ℕ, zero, suc, ◌+◌, ◌<◌, ◌≤◌, ◌⊎◌, inl, inr, Bool, true, false, not, ◌&&◌, ◌||◌, Option, None, Some, List, [], ◌∷◌, ◌++◌, map, cond, slice_get, get_or, option_map, arith, length, append_assoc}
+use Rattle.std.proofs.Common.{◌≡◌, refl, sym, ap, ◌∙◌, subst, ℕ, zero, suc, ◌+◌, ◌≤◌, inl, inr, Bool, true, false, ◌||◌, Option, None, Some, List, [], ◌∷◌, ◌++◌, map, cond, slice_get, get_or, option_map, arith, length, append_assoc}
 use Rattle.std.specs.Bool.{⊤}
-use Rattle.std.specs.List.{list_any, list_all}
+use Rattle.std.specs.List.{list_any}
 use Rattle.ir_types.specs.declared.id.Id.{Id}
-use Rattle.ir_types.specs.declared.opd.Opd.{Opd}
-use Rattle.ir_types.specs.declared.opd.Opd.TheVariants.{Val, Lit, Sym}
 use Rattle.ir_types.specs.declared.inst.Inst.{Inst}
 use Rattle.ir_types.specs.declared.module.Module.{Module}
 use Rattle.ir_types.specs.Available.{same_id}
 use Rattle.ir_types.proofs.Formed.{Every}
 use Rattle.ir_types.proofs.Among.{same_is, same_itself, swapped}
 use Rattle.vx_order.specs.Order.{order_of}
-use Rattle.vx_view.specs.Answers.{find, is_value}
+use Rattle.vx_view.specs.Answers.{find}
 use Rattle.vx_serial.specs.declared.node.Node.{Node}
-use Rattle.vx_serial.specs.Window.{is_member, up_to, from_member, window, place_of, singles, groups_in, edges_in, with_inst, insts_at, order_in, order, joined}
-use Rattle.vx_serial.specs.Bundles.{AreOnce, ids_of, AreBundles}
-use Rattle.vx_serial.specs.Legal.{is_widened, inst_of, insts_of, bundles_of, with_lane}
-use Rattle.vx_serial.specs.Rewriting.{is_id_in, joined_ids, before_member, after_inst, bundle_of, is_first_lane}
+use Rattle.vx_serial.specs.Window.{is_member, up_to, from_member, window, place_of, singles, groups_in, edges_in, with_inst, insts_at, order_in, joined}
+use Rattle.vx_serial.specs.Bundles.{AreOnce, ids_of}
+use Rattle.vx_serial.specs.Rewriting.{is_id_in, joined_ids, before_member, after_inst, bundle_of}
 use Rattle.vx_serial.proofs.Places.{member_joined}
-use Rattle.rf_order.specs.Rows.{NoneBefore, Reordered}
+use Rattle.rf_order.specs.Rows.{Reordered}
 use Rattle.rf_rewrite.proofs.Contexts.{one_of, times, times_append}
-use Rattle.rf_rewrite.proofs.Window.{find_id, find_append, find_times}
-use Rattle.rf_rewrite.proofs.Making.{every_append, every_map, Member, GroupKind, IsGroup}
+use Rattle.rf_rewrite.proofs.Window.{find_id, find_append}
+use Rattle.rf_rewrite.proofs.Making.{every_append, Member, IsGroup}
 
 abbrev count : Bool → ℕ
 count b = cond b 1 0

@@ -1,5 +1,5 @@
 -- The changes of a region lead to the module in which it is rewritten.
-use Rattle.std.proofs.Common.{◌≡◌, refl, sym, ap, ◌∙◌, subst, ℕ, suc, ◌+◌, ◌-◌, ◌<◌, ◌≤◌, ◌⊎◌, inl, inr, Bool, true, false, ◌&&◌, ◌||◌, Option, None, Some, List, [], ◌∷◌, ◌++◌, map, cond, nat_eq, option_map, arith, length, append_assoc}
+use Rattle.std.proofs.Common.{◌≡◌, refl, sym, ap, ◌∙◌, subst, ℕ, suc, ◌+◌, ◌-◌, ◌≤◌, ◌⊎◌, inl, inr, Bool, true, false, ◌&&◌, Option, None, Some, List, [], ◌∷◌, ◌++◌, map, cond, nat_eq, option_map, arith, length, append_assoc}
 use Rattle.std.specs.Prelude.{is_none}
 use Rattle.std.specs.List.{list_any, list_all}
 use Rattle.std.proofs.lemmas.Bool.Decides.{nat_tests}
@@ -28,7 +28,6 @@ use Rattle.vx_serial.specs.Changing.{steps, removals, not_among, before_next, ch
 use Rattle.vx_serial.proofs.Places.{member_joined}
 use Rattle.rf_order.proofs.Windows.{orders_reordered}
 use Rattle.vx_serial.specs.declared.cause.Cause.{Cause}
-use Rattle.vx_serial.specs.declared.node.How.{How}
 use Rattle.vx_serial.specs.declared.node.How.TheVariants.{Reuse, Ident}
 use Rattle.rf_rewrite.specs.Rewritten.{with_insts, is_root_widened, Leads, ChangesLead}
 use Rattle.rf_rewrite.specs.Removing.{among, removal_order, changes_in_turn, IsOwn, RemovedInTurn}

@@ -1,20 +1,19 @@
 -- What is left of lists when ids are taken out.
-use Rattle.std.proofs.Common.{◌≡◌, refl, sym, ap, ◌∙◌, subst, ℕ, zero, suc, ◌+◌, ◌<◌, ◌≤◌, Bool, true, false, not, ◌&&◌, ◌||◌, Option, None, Some, List, [], ◌∷◌, ◌++◌, map, cond, nat_eq, arith, length, append_assoc}
-use Rattle.std.specs.Bool.{⊤}
-use Rattle.std.specs.List.{list_any, list_all}
+use Rattle.std.proofs.Common.{◌≡◌, refl, sym, ap, ◌∙◌, subst, ℕ, suc, ◌+◌, ◌≤◌, Bool, true, false, not, ◌&&◌, ◌||◌, List, [], ◌∷◌, ◌++◌, cond, nat_eq, arith}
+use Rattle.std.specs.List.{list_all}
 use Rattle.ir_types.specs.declared.id.Id.{Id}
 use Rattle.ir_types.specs.declared.id.Use.{Use}
 use Rattle.ir_types.specs.declared.inst.Inst.{Inst}
 use Rattle.ir_types.specs.Available.{same_id}
 use Rattle.ir_types.proofs.Among.{same_is, same_itself, swapped}
-use Rattle.vx_view.specs.Answers.{find, slots_from, uses_in}
+use Rattle.vx_view.specs.Answers.{slots_from, uses_in}
 use Rattle.vx_view.specs.Changes.{each, removing}
 use Rattle.vx_serial.specs.Bundles.{AreOnce, ids_of}
 use Rattle.vx_serial.specs.Rewriting.{is_created, is_id_in, without}
 use Rattle.vx_serial.specs.Changing.{not_among}
-use Rattle.rf_rewrite.proofs.Contexts.{one_of, times, times_append}
+use Rattle.rf_rewrite.proofs.Contexts.{one_of, times}
 use Rattle.rf_rewrite.proofs.Parts.{all_append}
-use Rattle.rf_rewrite.proofs.Window.{left, next_rest, find_append}
+use Rattle.rf_rewrite.proofs.Window.{left, next_rest}
 use Rattle.rf_rewrite.proofs.Gone.{uses_id, used_by, without_none}
 use Rattle.rf_rewrite.proofs.Trees.{any_append}
 use Rattle.vx_serial.proofs.Decided.{true_false}

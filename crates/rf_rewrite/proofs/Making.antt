@@ -1,7 +1,6 @@
 -- What is written of the groups of a window: what it takes, what it knows, and of which kinds its instructions are.
-use Rattle.std.proofs.Common.{◌≡◌, refl, sym, ap, ◌∙◌, subst, ℕ, zero, suc, ◌+◌, ◌<◌, ◌≤◌, ◌⊎◌, inl, inr, Bool, true, false, ◌&&◌, ◌||◌, Option, None, Some, List, [], ◌∷◌, ◌++◌, map, cond, nat_eq, slice_get, arith, length, append_assoc}
+use Rattle.std.proofs.Common.{◌≡◌, refl, sym, ap, ◌∙◌, subst, ℕ, zero, suc, ◌+◌, ◌<◌, ◌≤◌, ◌⊎◌, inl, inr, Bool, true, false, Option, None, Some, List, [], ◌∷◌, ◌++◌, cond, nat_eq, slice_get, arith, length, append_assoc}
 use Rattle.std.specs.Bool.{⊤}
-use Rattle.std.specs.List.{list_any}
 use Rattle.std.proofs.lemmas.Bool.Decides.{nat_tests}
 use Rattle.ir_types.specs.declared.id.Id.{Id}
 use Rattle.ir_types.specs.declared.ty.Ty.{Ty}
@@ -14,14 +13,13 @@ use Rattle.ir_types.specs.declared.inst.Inst.{Inst}
 use Rattle.ir_types.specs.declared.module.Module.{Module}
 use Rattle.ir_types.specs.Available.{same_id}
 use Rattle.ir_types.proofs.Formed.{Every}
-use Rattle.ir_types.proofs.Among.{same_is, same_itself}
+use Rattle.ir_types.proofs.Among.{same_is}
 use Rattle.vx_view.specs.Answers.{find}
 use Rattle.vx_serial.specs.declared.node.How.{How}
 use Rattle.vx_serial.specs.declared.node.How.TheVariants.{Widen, Reuse, Ident, Pack}
 use Rattle.vx_serial.specs.declared.node.Node.{Node}
 use Rattle.vx_serial.specs.Window.{joined}
-use Rattle.vx_serial.specs.Rewriting
-use Rattle.vx_serial.specs.Rewriting.{Made, Gathering, created, made, gathered, gather, row_of, first_ty, literal_of, index_of, vector_of, of_vector, slot_by, slot_of, with_slot, slots_in, common_op, pointer_of, extracts, with_insts, with_vector, widened_by, widened, bundle_of, group_by, group_in, written, is_created, is_id_in}
+use Rattle.vx_serial.specs.Rewriting.{Made, Gathering, created, made, gathered, gather, row_of, first_ty, literal_of, index_of, vector_of, of_vector, slot_by, slot_of, slots_in, common_op, pointer_of, extracts, with_insts, with_vector, widened_by, bundle_of, group_by, group_in, written, is_created, is_id_in}
 use Rattle.rf_rewrite.proofs.Contexts.{one_of, times, times_append}
 use Rattle.rf_rewrite.proofs.Window.{Known, Moves, next_known, one_itself}
 use Rattle.rf_rewrite.proofs.Taking.{TakesOf, next_taken, Takes}

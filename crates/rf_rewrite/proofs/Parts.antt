@@ -1,25 +1,22 @@
 -- What a module tells of its context: parameters and uses; the context of a block; another block in a context.
-use Rattle.std.proofs.Common.{◌≡◌, refl, sym, ap, ◌∙◌, subst, ℕ, zero, suc, ◌+◌, ◌≤◌, Bool, true, false, ◌&&◌, ◌||◌, Option, None, Some, List, [], ◌∷◌, ◌++◌, map, cond, arith, length, append_assoc}
-use Rattle.std.specs.Bool.{⊤}
-use Rattle.std.specs.List.{list_any, list_all}
+use Rattle.std.proofs.Common.{◌≡◌, refl, sym, ap, ◌∙◌, subst, ℕ, suc, ◌+◌, ◌≤◌, Bool, true, false, ◌&&◌, ◌||◌, Option, None, Some, List, [], ◌∷◌, ◌++◌, map, cond, arith, append_assoc}
+use Rattle.std.specs.List.{list_all}
 use Rattle.ir_types.specs.declared.id.Id.{Id}
 use Rattle.ir_types.specs.declared.id.Use.{Use}
 use Rattle.ir_types.specs.declared.opd.Opd.{Opd}
 use Rattle.ir_types.specs.declared.inst.Inst.{Inst}
-use Rattle.ir_types.specs.declared.func.Param.{Param}
 use Rattle.ir_types.specs.declared.func.Block.{Block}
 use Rattle.ir_types.specs.declared.func.Func.{Func}
 use Rattle.ir_types.specs.declared.module.Item.{Item}
 use Rattle.ir_types.specs.declared.module.Item.TheVariants.{Kept, Opaque, Func as FuncItem}
 use Rattle.ir_types.specs.declared.module.Module.{Module}
 use Rattle.ir_types.specs.Available.{same_id, defines}
-use Rattle.ir_types.specs.Formed.{block_ids, item_ids, ids_of_items, ids_of}
+use Rattle.ir_types.specs.Formed.{block_ids, item_ids, ids_of_items}
 use Rattle.ir_types.proofs.Among.{same_itself}
 use Rattle.vx_view.specs.Answers.{funcs_of, param_in, param_of, find, found, Standing, standing, either, standing_in, standing_of, is_value, slots_from, uses_of, uses_in, uses_in_blocks}
-use Rattle.vx_view.specs.Changes.{Edit, each, edited_block, edited_item, edited}
 use Rattle.sb_uses.specs.Totals.{id_times}
 use Rattle.rf_rewrite.specs.Rewritten.{in_block, in_item, with_insts}
-use Rattle.rf_rewrite.proofs.Contexts.{Context, func_with, block_with, items_with, plug, one_of, times, inst_ids, param_ids, ids_append, times_ids, ahead, past, around, place_of, number_from}
+use Rattle.rf_rewrite.proofs.Contexts.{Context, func_with, block_with, plug, one_of, times, inst_ids, param_ids, ids_append, times_ids, around}
 use Rattle.rf_rewrite.proofs.Facts.{some_is, map_append}
 
 -- ---- parameters

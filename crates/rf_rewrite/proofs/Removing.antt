@@ -1,15 +1,11 @@
 -- The removals go on lists as they go on the module: what is left is used by what is left alone.
-use Rattle.std.proofs.Common.{◌≡◌, refl, sym, ap, ◌∙◌, subst, ℕ, zero, suc, ◌+◌, ◌<◌, ◌≤◌, Bool, true, false, not, ◌&&◌, ◌||◌, Option, None, Some, List, [], ◌∷◌, ◌++◌, map, cond, arith, length, append_assoc}
-use Rattle.std.specs.Bool.{⊤}
-use Rattle.std.specs.List.{list_any}
+use Rattle.std.proofs.Common.{◌≡◌, refl, sym, ap, ◌∙◌, ℕ, zero, suc, ◌≤◌, Bool, true, false, not, ◌||◌, Option, None, Some, List, [], ◌∷◌, ◌++◌, map, cond, arith}
 use Rattle.ir_types.specs.declared.id.Id.{Id}
 use Rattle.ir_types.specs.declared.id.Use.{Use}
 use Rattle.ir_types.specs.declared.inst.Inst.{Inst}
-use Rattle.ir_types.specs.declared.module.Module.{Module}
 use Rattle.ir_types.specs.Available.{same_id}
 use Rattle.ir_types.proofs.Formed.{Every}
-use Rattle.ir_types.proofs.Among.{same_is, same_itself}
-use Rattle.vx_view.specs.declared.change.Change.{Change}
+use Rattle.ir_types.proofs.Among.{same_itself}
 use Rattle.vx_view.specs.declared.change.Change.TheVariants.{Remove}
 use Rattle.vx_view.specs.Answers.{funcs_of, slots_from, uses_of, uses_in, uses_in_blocks}
 use Rattle.vx_view.specs.Changes.{each, removing as removing_edit, applied}

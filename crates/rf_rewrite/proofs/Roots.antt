@@ -1,17 +1,13 @@
 -- The first node of a region's tree has the region's stores.
-use Rattle.std.proofs.Common.{◌≡◌, refl, sym, ap, ◌∙◌, subst, ℕ, zero, suc, Bool, true, false, ◌&&◌, ◌||◌, Option, None, Some, List, [], ◌∷◌, ◌++◌, length}
-use Rattle.std.specs.Bool.{⊤}
-use Rattle.std.specs.List.{list_any}
+use Rattle.std.proofs.Common.{◌≡◌, refl, ap, ◌∙◌, ℕ, zero, suc, true, List, [], ◌∷◌, ◌++◌, length}
 use Rattle.ir_types.specs.declared.id.Id.{Id}
 use Rattle.ir_types.specs.declared.opd.Opd.{Opd}
-use Rattle.ir_types.specs.declared.opd.Opd.TheVariants.{Val}
 use Rattle.ir_types.specs.declared.inst.Inst.{Inst}
 use Rattle.ir_types.specs.declared.module.Module.{Module}
-use Rattle.ir_types.specs.Available.{same_id}
 use Rattle.vx_serial.specs.declared.node.How.{How}
 use Rattle.vx_serial.specs.declared.node.How.TheVariants.{Widen, Reuse, Ident, Pack}
 use Rattle.vx_serial.specs.declared.node.Node.{Node}
-use Rattle.vx_serial.specs.Legal.{is_widened, insts_of, legal}
+use Rattle.vx_serial.specs.Legal.{insts_of, legal}
 use Rattle.vx_serial.specs.Tree.{slot_count, slots_from, Visit, visit_all, with_slots, node, visited, visit, values_of, tree_in}
 use Rattle.rf_rewrite.specs.Rewritten.{is_root_widened}
 

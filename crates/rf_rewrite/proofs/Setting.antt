@@ -1,30 +1,27 @@
 -- What goes of a block whose window was written anew: all that the removals ask holds, and the block that they leave is the rewritten one.
-use Rattle.std.proofs.Common.{◌≡◌, refl, sym, ap, ◌∙◌, subst, ℕ, zero, suc, ◌+◌, ◌<◌, ◌≤◌, ◌⊎◌, inl, inr, Bool, true, false, not, ◌&&◌, ◌||◌, Option, None, Some, List, [], ◌∷◌, ◌++◌, map, cond, nat_eq, arith, length, append_assoc}
-use Rattle.std.specs.Bool.{⊤}
-use Rattle.std.specs.List.{list_any, list_all}
+use Rattle.std.proofs.Common.{◌≡◌, refl, sym, ap, ◌∙◌, subst, ℕ, zero, suc, ◌+◌, ◌≤◌, ◌⊎◌, inl, inr, Bool, true, false, not, ◌&&◌, ◌||◌, Some, List, [], ◌∷◌, ◌++◌, cond, nat_eq, arith, append_assoc}
+use Rattle.std.specs.List.{list_any}
 use Rattle.std.proofs.lemmas.Bool.Decides.{nat_tests}
 use Rattle.ir_types.specs.declared.id.Id.{Id}
-use Rattle.ir_types.specs.declared.id.Use.{Use}
 use Rattle.ir_types.specs.declared.inst.Inst.{Inst}
-use Rattle.ir_types.specs.declared.opd.Opd.TheVariants.{Val, Lit}
 use Rattle.ir_types.specs.Available.{same_id}
 use Rattle.ir_types.specs.Formed.{is_phi}
 use Rattle.ir_types.proofs.Formed.{Every}
-use Rattle.ir_types.proofs.Among.{same_is, same_itself, swapped}
+use Rattle.ir_types.proofs.Among.{same_is, same_itself}
 use Rattle.vx_view.specs.Answers.{funcs_of, find, uses_of, uses_in, is_value}
 use Rattle.vx_serial.specs.Bundles.{AreOnce, ids_of}
 use Rattle.vx_serial.specs.Rewriting.{created, is_created, is_id_in, without, uses_value}
 use Rattle.vx_serial.specs.Changing.{not_among}
 use Rattle.rf_rewrite.proofs.Contexts.{Context, plug, one_of, times, times_append, around}
 use Rattle.rf_rewrite.proofs.Parts.{NoneAround, none_around}
-use Rattle.rf_rewrite.proofs.Window.{left, find_append, find_front, find_times, find_id}
+use Rattle.rf_rewrite.proofs.Window.{find_append, find_front, find_times}
 use Rattle.rf_rewrite.proofs.Gone.{uses_id, Loose, LooseUse, Removable, AllRemovable, Going, without_none}
 use Rattle.rf_rewrite.proofs.Making.{IsExtract, IsKept, Kind}
 use Rattle.rf_rewrite.proofs.Trees.{once_both}
 use Rattle.rf_rewrite.specs.Removing.{among}
 use Rattle.rf_rewrite.proofs.Removing.{among_append, among_none, among_without, Shut, Closing}
 use Rattle.rf_rewrite.proofs.Scan.{users}
-use Rattle.rf_rewrite.proofs.Left.{without_append, gone_times, kept_times, fewer_times, without_agree, without_all, without_stays, moved, left_is, moved_stands, stands_moved, in_not_among, not_among_once, in_both, ids_times, times_ids_in, user_in}
+use Rattle.rf_rewrite.proofs.Left.{without_append, gone_times, kept_times, fewer_times, without_agree, without_all, without_stays, moved, moved_stands, stands_moved, in_not_among, not_among_once, in_both, ids_times, times_ids_in, user_in}
 use Rattle.vx_serial.proofs.Decided.{true_false, and_left, and_right}
 use Rattle.rf_rewrite.proofs.Facts.{append_none}
 

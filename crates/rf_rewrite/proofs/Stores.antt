@@ -1,5 +1,5 @@
 -- The stores of a region are lanes of its tree, where its root is widened.
-use Rattle.std.proofs.Common.{◌≡◌, refl, sym, ap, ◌∙◌, subst, ℕ, ◌+◌, ◌-◌, ◌<◌, ◌≤◌, ◌⊎◌, Bool, true, false, ◌&&◌, ◌||◌, Some, List, [], ◌∷◌, ◌++◌, cond, arith, length}
+use Rattle.std.proofs.Common.{◌≡◌, refl, sym, ap, ◌∙◌, subst, ℕ, ◌+◌, ◌≤◌, Bool, true, false, ◌||◌, Some, List, [], ◌∷◌, cond, arith, length}
 use Rattle.ir_types.specs.declared.id.Id.{Id}
 use Rattle.ir_types.specs.declared.opd.Opd.{Opd}
 use Rattle.ir_types.specs.declared.opd.Opd.TheVariants.{Val}
@@ -9,7 +9,7 @@ use Rattle.ir_types.specs.Available.{same_id}
 use Rattle.ir_types.specs.Formed.{IsFormed, ids_of as module_ids}
 use Rattle.ir_types.proofs.Formed.{Every}
 use Rattle.ir_types.proofs.Among.{same_is, same_itself}
-use Rattle.vx_view.specs.Answers.{find, found}
+use Rattle.vx_view.specs.Answers.{find}
 use Rattle.sb_uses.specs.Totals.{id_times}
 use Rattle.vx_serial.specs.declared.node.How.TheVariants.{Widen}
 use Rattle.vx_serial.specs.declared.node.Node.{Node}

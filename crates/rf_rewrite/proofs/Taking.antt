@@ -1,17 +1,16 @@
 -- A new window that takes each instruction of the old one once at most.
-use Rattle.std.proofs.Common.{◌≡◌, refl, sym, ap, ◌∙◌, subst, ℕ, zero, suc, ◌+◌, ◌<◌, ◌≤◌, Bool, true, false, ◌&&◌, ◌||◌, Option, None, Some, List, [], ◌∷◌, ◌++◌, map, cond, arith, length, append_assoc}
+use Rattle.std.proofs.Common.{◌≡◌, refl, sym, ap, ◌∙◌, subst, ℕ, ◌+◌, ◌≤◌, Bool, true, false, Some, List, [], ◌∷◌, ◌++◌, cond, arith}
 use Rattle.std.specs.Bool.{⊤}
-use Rattle.std.specs.List.{list_any}
 use Rattle.ir_types.specs.declared.id.Id.{Id}
 use Rattle.ir_types.specs.declared.inst.Inst.{Inst}
 use Rattle.ir_types.specs.Available.{same_id}
 use Rattle.ir_types.proofs.Formed.{Every}
-use Rattle.ir_types.proofs.Among.{same_is, same_itself}
+use Rattle.ir_types.proofs.Among.{same_is}
 use Rattle.vx_view.specs.Answers.{find}
 use Rattle.vx_view.specs.Changes.{each, removing}
 use Rattle.vx_serial.specs.Rewriting.{is_created, is_id_in, without}
-use Rattle.rf_rewrite.proofs.Contexts.{one_of, times}
-use Rattle.rf_rewrite.proofs.Window.{Known, Moves, FineOf, next_known, next_rest, Fine, one_itself}
+use Rattle.rf_rewrite.proofs.Contexts.{one_of}
+use Rattle.rf_rewrite.proofs.Window.{Known, Moves, FineOf, next_known, next_rest, Fine}
 
 module _ (globals region : ℕ) (lanes : List Id) (window : List Inst) where
   -- how the instruction that is written stands to the one of the window that has its id

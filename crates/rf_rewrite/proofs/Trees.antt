@@ -1,11 +1,10 @@
 -- What holds of the nodes of a region's tree: widened lanes are instructions that may move, none is a lane twice, and the bundles have an
 -- order.
-use Rattle.std.proofs.Common.{◌≡◌, refl, sym, ap, ◌∙◌, subst, ℕ, zero, suc, ◌+◌, ◌<◌, ◌≤◌, ◌⊎◌, inl, inr, Bool, true, false, not, ◌&&◌, ◌||◌, Option, None, Some, List, [], ◌∷◌, ◌++◌, map, cond, slice_get, option_map, arith, length, append_assoc}
+use Rattle.std.proofs.Common.{◌≡◌, refl, sym, ap, ◌∙◌, subst, ℕ, zero, suc, ◌≤◌, ◌⊎◌, inl, inr, Bool, true, false, not, ◌&&◌, ◌||◌, Option, None, Some, List, [], ◌∷◌, ◌++◌, cond, slice_get, option_map, arith, length, append_assoc}
 use Rattle.std.specs.Bool.{⊤}
 use Rattle.std.specs.Prelude.{is_none}
 use Rattle.std.specs.List.{list_any, list_all}
 use Rattle.ir_types.specs.declared.id.Id.{Id}
-use Rattle.ir_types.specs.declared.ty.Ty.{Ty}
 use Rattle.ir_types.specs.declared.opd.Opd.{Opd}
 use Rattle.ir_types.specs.declared.opd.Opd.TheVariants.{Val, Lit, Sym}
 use Rattle.ir_types.specs.declared.op.Op.{Op}
@@ -27,9 +26,8 @@ use Rattle.vx_serial.specs.declared.node.Node.{Node}
 use Rattle.vx_serial.specs.Window.{order, joined}
 use Rattle.vx_serial.specs.Bundles.{AreOnce, ids_of}
 use Rattle.vx_serial.specs.Near.{looked_at}
-use Rattle.vx_serial.specs.Legal
-use Rattle.vx_serial.specs.Legal.{same_value, is_widened, reused, inst_of, insts_of, with_lane, value_ty, ty_of, of_lanes, element_of, vector_of, whole_vector, are_elements, identity, is_there, is_kind, may_widen, is_among, are_repeated, is_taken, bundles_of, first_cause, is_root, has_cycle, causes, packed, or_else, legal}
-use Rattle.vx_serial.specs.Tree.{slots_of, slot_count, with_opd, slot, slots_from, Visit, visit_all, with_slots, node, put_slots, visited, visit, values_of, tree_in}
+use Rattle.vx_serial.specs.Legal.{same_value, is_widened, reused, inst_of, insts_of, with_lane, value_ty, ty_of, of_lanes, element_of, vector_of, whole_vector, are_elements, identity, is_there, is_kind, may_widen, is_among, are_repeated, is_taken, bundles_of, first_cause, is_root, causes, packed, or_else, legal}
+use Rattle.vx_serial.specs.Tree.{slot_count, with_opd, slot, slots_from, Visit, visit_all, with_slots, node, visited, visit, values_of, tree_in}
 use Rattle.vx_serial.specs.Rewriting.{is_id_in, bundle_of, is_first_lane}
 use Rattle.rf_rewrite.proofs.Contexts.{neither_there}
 use Rattle.rf_rewrite.proofs.Window.{Known, find_id}

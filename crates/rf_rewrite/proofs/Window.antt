@@ -1,8 +1,8 @@
 -- What is inserted, replaced and moved before one instruction, along a new window: the changes fit one after another, and the window is
 -- written there.
-use Rattle.std.proofs.Common.{◌≡◌, refl, sym, ap, ◌∙◌, subst, ℕ, zero, suc, ◌+◌, ◌<◌, ◌≤◌, Bool, true, false, ◌&&◌, ◌||◌, Option, None, Some, List, [], ◌∷◌, ◌++◌, map, cond, nat_eq, arith, length, append_assoc}
+use Rattle.std.proofs.Common.{◌≡◌, refl, sym, ap, ◌∙◌, subst, ℕ, suc, ◌+◌, ◌<◌, ◌≤◌, Bool, true, false, Some, List, [], ◌∷◌, ◌++◌, cond, nat_eq, arith, length, append_assoc}
 use Rattle.std.specs.Bool.{⊤}
-use Rattle.std.specs.List.{All, list_any, list_all}
+use Rattle.std.specs.List.{All}
 use Rattle.std.proofs.lemmas.List.Elements.{All-nil, All-cons}
 use Rattle.ir_types.specs.declared.id.Id.{Id}
 use Rattle.ir_types.specs.declared.opd.Opd.{Opd}
@@ -10,18 +10,18 @@ use Rattle.ir_types.specs.declared.opd.Opd.TheVariants.{Val, Lit, Sym}
 use Rattle.ir_types.specs.declared.inst.Inst.{Inst}
 use Rattle.ir_types.specs.declared.module.Module.{Module}
 use Rattle.ir_types.specs.Available.{same_id}
-use Rattle.ir_types.specs.Formed.{is_phi, is_alloca, is_terminator, ids_of}
+use Rattle.ir_types.specs.Formed.{is_phi, is_terminator, ids_of}
 use Rattle.ir_types.proofs.Formed.{Every}
 use Rattle.ir_types.proofs.Among.{same_is, same_itself, swapped}
 use Rattle.vx_view.specs.declared.change.Change.{Change}
-use Rattle.vx_view.specs.declared.change.Change.TheVariants.{Insert, Remove, Move, Replace}
-use Rattle.vx_view.specs.Answers.{funcs_of, param_of, find, found, Standing}
-use Rattle.vx_view.specs.Changes.{Edit, each, edited, inserting, removing, putting, moved, applied, all_applied, Fits, AllFit, IsThere, Stands, IsNoPhi, IsNeither, IsEither}
+use Rattle.vx_view.specs.declared.change.Change.TheVariants.{Insert, Move, Replace}
+use Rattle.vx_view.specs.Answers.{find, found}
+use Rattle.vx_view.specs.Changes.{Edit, each, edited, inserting, removing, putting, moved, applied, all_applied, Fits, AllFit, IsThere, Stands, IsNoPhi}
 use Rattle.vx_view.proofs.Edits.{each-append}
 use Rattle.sb_uses.specs.Totals.{id_times}
 use Rattle.vx_serial.specs.Rewriting.{is_created, is_id_in}
 use Rattle.vx_serial.specs.Changing.{step_by, steps}
-use Rattle.rf_rewrite.proofs.Contexts.{Context, plug, one_of, times, times_append, ahead, past, around, place_of, ids_plug, neither_there, either_there, no_find, found_plug, Only, each_none, edited_plug}
+use Rattle.rf_rewrite.proofs.Contexts.{Context, plug, one_of, times, times_append, around, place_of, ids_plug, neither_there, either_there, found_plug, Only, each_none, edited_plug}
 
 -- ---- lists
 

@@ -4,7 +4,6 @@ use Rattle.std.specs.Int.{int_wrap}
 use Rattle.ir_types.specs.declared.id.Id.{Id}
 use Rattle.ir_types.specs.declared.inst.Inst.{Inst}
 use Rattle.ir_types.specs.declared.func.Block.{Block}
-use Rattle.ir_types.specs.declared.func.Func.{Func}
 use Rattle.ir_types.specs.declared.module.Item.{Item}
 use Rattle.ir_types.specs.declared.module.Item.TheVariants.{Func as FuncItem}
 use Rattle.ir_types.specs.declared.module.Module.{Module}
@@ -12,7 +11,6 @@ use Rattle.ir_types.specs.Available.{defines}
 use Rattle.ir_types.specs.Formed.{IsFormed, IsFresh, IsLawful}
 use Rattle.vx_view.specs.declared.change.Change.{Change}
 use Rattle.vx_view.specs.Changes.{all_applied, AllFit}
-use Rattle.vx_serial.specs.declared.node.How.{How}
 use Rattle.vx_serial.specs.declared.node.Node.{Node}
 use Rattle.vx_serial.specs.Window.{id}
 use Rattle.vx_serial.specs.Legal.{is_widened, sums_of, adding}
