@@ -10,3 +10,4 @@ pub mod Turns
 pub mod Steps
 pub mod Slots
 pub mod Bundles
+pub mod Extracts

@@ -4,7 +4,7 @@
 //! `vx_serial`; a caller that calls it has the law. Nothing here fails. `proofs/` has, for the law that a rewritten module is formed, which is
 //! not stated yet: that a formed module stays formed with another row in a block whose lines are fine (`Exchanged`), the vector forms
 //! of operations (`Forms`), that groups come in turn (`Turns`), and that gathers and slots are fine where they stand (`Steps`, `Slots`,
-//! `Bundles`).
+//! `Bundles`, `Extracts`).
 #![tactic(auto)]
 
 mod laws;
